@@ -1,0 +1,45 @@
+ghost use Rattle.std.specs.Prelude.{◌≡◌, IfOk};
+
+use std::alloc::{AllocError, Global};
+use std::marker::Model;
+
+/// One value on the heap. A contract sees the value itself, and neither the pointer nor the allocator.
+#[derive(Debug, Drop)]
+pub struct Boxed<T> {
+    held: Box<T>,
+}
+
+impl<T> Model for Boxed<T> {
+    ghost Value = { T };
+
+    ghost coded = { T.code };
+
+    ghost view = { λ owner. owner.held.value };
+}
+
+impl<T> Boxed<T> {
+    /// The value, borrowed.
+    pub fn get(&self) -> &T
+        ensures { result.now ≡ self.now }
+    {
+        &self.held
+    }
+
+    /// The value, out of its box.
+    pub fn into_inner(self) -> T
+        ensures { result ≡ self }
+    {
+        let Boxed { held } = self;
+        Box::into_inner(held)
+    }
+}
+
+impl<T: Drop> Boxed<T> {
+    /// The value in a new box. The error means want of memory, and the value is dropped.
+    pub fn new(alloc: Global, value: T) -> Result<Boxed<T>, AllocError>
+        ensures { IfOk result (λ owner. owner ≡ value) }
+    {
+        let held = Box::new(alloc, value)?;
+        Ok(Boxed { held })
+    }
+}
