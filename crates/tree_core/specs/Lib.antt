@@ -1,0 +1,4 @@
+pub mod Label
+pub mod Tree
+pub mod Place
+pub mod Formula
