@@ -23,7 +23,7 @@ run_in ts i place = option_map_or (λ c. run_at c place) (child ts i) []
 run_at-below : (run : Run) (label : Label) (ts : Trees) (i : ℕ) (place : Place) → run_at (tree run label ts) (i ∷ place) ≡ run_in ts i place
 run_at-below run label ts i place = elim (child ts i) as (λ c. option_map_or run_of (option_map_or (λ t. at t place) c None) [] ≡ option_map_or (λ t. run_at t place) c []) [ None ↦ refl | Some t ↦ refl ]
 
-own_run : (t : Tree) (place : Place) → option_map_or (λ _. run_at t place) (at t place) [] ≡ run_at t place
+pub own_run : (t : Tree) (place : Place) → option_map_or (λ _. run_at t place) (at t place) [] ≡ run_at t place
 own_run t place = elim (at t place) as (λ o. option_map_or (λ _. option_map_or run_of o []) o [] ≡ option_map_or run_of o []) [ None ↦ refl | Some s ↦ refl ]
 
 mutual

@@ -1,0 +1,5 @@
+pub mod Rule
+pub mod Reached
+pub mod Imported
+pub mod ImportOf
+pub mod ImportRule
