@@ -1,5 +1,5 @@
 -- The imported formula exists, and is the only one.
-use Rattle.std.proofs.Common.{◌≡◌, List, [], ◌∷◌, Bool, true, false, ◌&&◌, cond, Option, Some, None, refl, sym, ap, ◌∙◌}
+use Rattle.std.proofs.Common.{◌≡◌, List, [], ◌∷◌, Bool, true, false, ◌&&◌, cond, Option, Some, None, refl, sym, ap, ◌∙◌, subst}
 use Rattle.std.proofs.lemmas.Bool.{and_parts, and_from, false_from_ne_true, false≢true}
 use Rattle.std.specs.Option.{option_map_or}
 use Rattle.tree_core.specs.Tree.{Run, Tree, run_of, label_of, children_of}
@@ -60,6 +60,9 @@ module _ (rule : Rule) (add : Bool) (given : Tree) (place : Place) where
 
 pub imports : (rule : Rule) (add : Bool) (given : Tree) → Imported rule add given (import_of rule add given)
 imports rule add given = record { same_skeleton = skeleton-with_runs given (imported_run rule add given); runs = λ place. run_imported rule add given place }
+
+pub imports_since : (rule : Rule) (add : Bool) (given imported : Tree) → imported ≡ import_of rule add given → Imported rule add given imported
+imports_since rule add given imported e = subst (λ t. Imported rule add given t) (sym e) (imports rule add given)
 
 pub import_is_a_function : ImportIsAFunction
 import_is_a_function = record {

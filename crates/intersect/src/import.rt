@@ -28,6 +28,7 @@ pub fn imported(alloc: Global, node: &Node, add: bool) -> Result<Node, Memory>
     Ok(import)
 }
 
+#[tactic(auto, using(crate::proofs::Nodes::nodes))]
 fn visit(alloc: Global, node: &Node, add: bool) -> Result<Node, Memory>
     ensures { IfOk result (λ import. tree_of import ≡ import_of import_rule add (tree_of node.now)) }
 {
