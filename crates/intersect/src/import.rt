@@ -34,14 +34,8 @@ fn visit(alloc: Global, node: &Node, add: bool) -> Result<Node, Memory>
 {
     match node {
         Node::NumberKind(_) | Node::ReferenceKind { .. } => node.try_clone(alloc),
-        Node::RangeKind { .. } => {
-            let range = node.try_clone(alloc)?;
-            if add {
-                intersected(alloc, range)
-            } else {
-                Ok(range)
-            }
-        }
+        Node::RangeKind { .. } if add => intersected(alloc, node.try_clone(alloc)?),
+        Node::RangeKind { .. } => node.try_clone(alloc),
         Node::OpSumKind { kind, left, right } => {
             let left = Boxed::new(alloc, visit(alloc, left.get(), add)?)?;
             let right = Boxed::new(alloc, visit(alloc, right.get(), add)?)?;
@@ -55,13 +49,11 @@ fn visit(alloc: Global, node: &Node, add: bool) -> Result<Node, Memory>
             let right = Boxed::new(alloc, visit(alloc, right.get(), add)?)?;
             Ok(Node::UnaryKind { kind: *kind, right })
         }
-        Node::ImplicitIntersection { child, .. } => {
-            if is_intersected(child.get(), add) {
-                visit(alloc, child.get(), add)
-            } else {
-                node.try_clone(alloc)
-            }
+        // Of a run of `@`s the last one is left, which is the one over this child.
+        Node::ImplicitIntersection { child, .. } if is_intersected(child.get(), add) => {
+            visit(alloc, child.get(), add)
         }
+        Node::ImplicitIntersection { .. } => node.try_clone(alloc),
     }
 }
 

@@ -1,4 +1,4 @@
-ghost use Rattle.std.specs.Prelude.{◌≡◌, IfOk};
+ghost use Rattle.std.specs.Prelude.{◌≡◌, ◌↔◌, IsTrue, IfOk};
 
 use crate::memory::Memory;
 use std::alloc::Global;
@@ -39,5 +39,27 @@ impl Text {
         ensures { IfOk result (λ copy. copy ≡ self.now) }
     {
         Text::from_text(alloc, self.as_str())
+    }
+}
+
+impl PartialEq for Text {
+    ghost use Rattle.std.specs.Coded.{coded_list, coded_ℕ};
+    ghost use Rattle.own_items.specs.Sameness.{same, same-laws};
+
+    ghost eq = { same (coded_list coded_ℕ) };
+
+    ghost laws = { same-laws (coded_list coded_ℕ) };
+
+    /// Whether the two texts have the same bytes.
+    fn eq(&self, other: &Text) -> bool {
+        self.is(other)
+    }
+}
+
+impl Text {
+    fn is(&self, other: &Text) -> bool
+        ensures { IsTrue result ↔ (self.now ≡ other.now) }
+    {
+        self.as_str() == other.as_str()
     }
 }
