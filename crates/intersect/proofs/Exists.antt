@@ -14,9 +14,9 @@ use Rattle.intersect.proofs.Reach.{is_reached, reached_is}
 -- a run that is given where a place is
 within : (t : Tree) (place : Place) (rule : Rule) (run : Run) → range_like_at rule t place ≡ true → option_map_or (λ _. run) (at t place) [] ≡ run
 within t place rule run = elim (at t place) as (λ o. option_map_or (λ s. rule.range_like (label_of s) (children_of s)) o false ≡ true → option_map_or (λ _. run) o [] ≡ run) [
-    None ↦ λ h. cc
+  | None ↦ λ h. cc
   | Some s ↦ λ h. refl
-  ]
+]
 
 merged_run : (t : Tree) (place : Place) → option_map_or (λ _. merged (run_at t place)) (at t place) [] ≡ merged (run_at t place)
 merged_run t place = elim (at t place) as (λ o. option_map_or (λ _. merged (option_map_or run_of o [])) o [] ≡ merged (option_map_or run_of o [])) [ None ↦ refl | Some s ↦ refl ]
@@ -48,14 +48,14 @@ module _ (rule : Rule) (add : Bool) (given : Tree) (place : Place) where
   one_run : (t u : Tree) → ImportedAt rule add given t place → ImportedAt rule add given u place → run_at t place ≡ run_at u place
   one_run t u a b =
       let by_range = elim (wanted rule add given place && range_like_at rule given place) as (λ v.
-          (wanted rule add given place && range_like_at rule given place) ≡ v → IsReached rule add given place → run_at t place ≡ run_at u place) [
-          true ↦ λ e r. a.inserted r (both_of e) ∙ sym (b.inserted r (both_of e))
+      (wanted rule add given place && range_like_at rule given place) ≡ v → IsReached rule add given place → run_at t place ≡ run_at u place) [
+        | true ↦ λ e r. a.inserted r (both_of e) ∙ sym (b.inserted r (both_of e))
         | false ↦ λ e r. let no : ¬ IsWantedRange rule add given place = λ h. false≢true (sym e ∙ of_both h) in a.merges r no ∙ sym (b.merges r no)
-        ] in
+      ] in
       let by_reach = elim (reached rule add given place) as (λ v. reached rule add given place ≡ v → run_at t place ≡ run_at u place) [
-          true ↦ λ e. by_range refl (is_reached rule add given place e)
+        | true ↦ λ e. by_range refl (is_reached rule add given place e)
         | false ↦ λ e. let no : ¬ IsReached rule add given place = λ r. false≢true (sym e ∙ reached_is rule add given place r) in a.stays no ∙ sym (b.stays no)
-        ] in
+      ] in
       by_reach refl
 
 pub imports : (rule : Rule) (add : Bool) (given : Tree) → Imported rule add given (import_of rule add given)

@@ -20,18 +20,18 @@ module _ (rule : Rule) where
       record {
         entered = not-true _ parts.0;
         replaced = elim (or_cases (is_bare run) _ parts.1) [
-            inl bare ↦ inl (bare_run run bare)
+          | inl bare ↦ inl (bare_run run bare)
           | inr both ↦ (let two = and_parts add _ both in inr (record { wanted_here = two.0; range_like_here = two.1 }))
-          ];
+        ];
       }
 
   opens_root : (add : Bool) (t : Tree) → IsOpen rule add t [] → opens rule add t ≡ true
   opens_root add (tree run label ts) h =
       and_from _ _ (not_from_false _ h.entered)
       (elim h.replaced [
-          inl bare ↦ or_left (is_bare run) _ (ap is_bare bare)
+        | inl bare ↦ or_left (is_bare run) _ (ap is_bare bare)
         | inr both ↦ or_right (is_bare run) _ (and_from _ _ both.wanted_here both.range_like_here)
-        ])
+      ])
 
   -- import goes on below a place of a child exactly where it does so below that place of the tree
   open_down : (add : Bool) (run : Run) (label : Label) (ts : Trees) (i : ℕ) (c : Tree) (above : Place) → child ts i ≡ Some c
@@ -39,9 +39,9 @@ module _ (rule : Rule) where
   open_down add run label ts i c above e h = record {
     entered = rw e at h.entered;
     replaced = elim h.replaced [
-        inl bare ↦ inl (rw e at bare)
+      | inl bare ↦ inl (rw e at bare)
       | inr both ↦ inr (record { wanted_here = rw e at both.wanted_here; range_like_here = rw e at both.range_like_here })
-      ];
+    ];
   }
 
   open_up : (add : Bool) (run : Run) (label : Label) (ts : Trees) (i : ℕ) (c : Tree) (above : Place) → child ts i ≡ Some c
@@ -49,9 +49,9 @@ module _ (rule : Rule) where
   open_up add run label ts i c above e h = record {
     entered = rw e h.entered;
     replaced = elim h.replaced [
-        inl bare ↦ inl (rw e bare)
+      | inl bare ↦ inl (rw e bare)
       | inr both ↦ inr (record { wanted_here = rw e both.wanted_here; range_like_here = rw e both.range_like_here })
-      ];
+    ];
   }
 
   open_outside : (add : Bool) (run : Run) (label : Label) (ts : Trees) (i : ℕ) (above : Place) → child ts i ≡ None → IsOpen rule add (tree run label ts) (i ∷ above)
@@ -65,9 +65,9 @@ module _ (rule : Rule) where
       let same_child : j ≡ k = cc in
       let same_rest : place ≡ above ++ i ∷ rest = cc in
       let there = elim (child ts j) as (λ o. child ts j ≡ o → option_map_or (λ c. reached rule (rule.context add label ts j) c place) o true ≡ true → IsOpen rule add (tree run label ts) (j ∷ above)) [
-          None ↦ λ outside r. open_outside add run label ts j above outside
+        | None ↦ λ outside r. open_outside add run label ts j above outside
         | Some c ↦ λ inside r. open_up add run label ts j c above inside (open_above place above rest i (rule.context add label ts j) c r same_rest)
-        ] in
+      ] in
       subst (λ n. IsOpen rule add (tree run label ts) (n ∷ above)) same_child (there refl (and_parts (opens rule add (tree run label ts)) _ h).1)
 
   pub is_reached : (add : Bool) (t : Tree) (place : Place) → reached rule add t place ≡ true → IsReached rule add t place
@@ -77,8 +77,8 @@ module _ (rule : Rule) where
   reached_is add t [] h = refl
   reached_is add (tree run label ts) (i ∷ place) h =
       let there = elim (child ts i) as (λ o. child ts i ≡ o → option_map_or (λ c. reached rule (rule.context add label ts i) c place) o true ≡ true) [
-          None ↦ λ outside. refl
+        | None ↦ λ outside. refl
         | Some c ↦ λ inside. reached_is (rule.context add label ts i) c place
             (λ above j rest q. open_down add run label ts i c above inside (h (i ∷ above) j rest (ap (λ p. i ∷ p) q)))
-        ] in
+      ] in
       and_from _ _ (opens_root add (tree run label ts) (h [] i place refl)) (there refl)

@@ -9,3 +9,5 @@ pub use laws::import_is_a_function;
 
 mod import;
 mod laws;
+#[cfg(test)]
+mod tests;

@@ -67,9 +67,9 @@ pub run_at-with_runs : (t : Tree) (runs : Place → Run) (place : Place) → run
 run_at-with_runs t runs place =
     ap (λ o. option_map_or run_of o []) (at-with_runs t runs place)
     ∙ elim (at t place) as (λ o. option_map_or run_of (option_map (λ s. with_runs s (λ q. runs (place ++ q))) o) [] ≡ option_map_or (λ _. runs place) o []) [
-        None ↦ refl
+      | None ↦ refl
       | Some s ↦ run_of-with_runs s (λ q. runs (place ++ q)) ∙ ap runs (append-nil place)
-      ]
+    ]
 
 -- its own runs leave a tree as it is
 pub with_runs-run_at : (t : Tree) → with_runs t (run_at t) ≡ t

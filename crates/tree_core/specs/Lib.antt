@@ -1,4 +1,5 @@
 pub mod Label
 pub mod Tree
+pub mod Variant
 pub mod Place
 pub mod Formula

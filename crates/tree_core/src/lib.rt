@@ -7,8 +7,11 @@ pub use node::Node;
 pub use operator::{OpSum, OpUnary};
 pub use text::Text;
 
+mod equality;
 mod laws;
 mod memory;
 mod node;
 mod operator;
+#[cfg(test)]
+mod tests;
 mod text;

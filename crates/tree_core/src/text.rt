@@ -51,13 +51,16 @@ impl PartialEq for Text {
     ghost laws = { same-laws (coded_list coded_ℕ) };
 
     /// Whether the two texts have the same bytes.
-    fn eq(&self, other: &Text) -> bool {
+    fn eq(&self, other: &Text) -> bool
+        ensures same_value { IsTrue result ↔ (self.now ≡ other.now) }
+        ensures same_code { result ≡ same (coded_list coded_ℕ) self.now other.now }
+    {
         self.is(other)
     }
 }
 
 impl Text {
-    fn is(&self, other: &Text) -> bool
+    pub(crate) fn is(&self, other: &Text) -> bool
         ensures { IsTrue result ↔ (self.now ≡ other.now) }
     {
         self.as_str() == other.as_str()
