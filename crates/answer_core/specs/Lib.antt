@@ -1,0 +1,5 @@
+pub mod Answers
+pub mod Command
+pub mod Refusal
+pub mod Run
+pub mod Status

@@ -1,0 +1,3 @@
+/// A device refused a call. Nothing else is said.
+#[derive(Clone, Copy, Debug, PartialEq, Eq)]
+pub struct Failed;

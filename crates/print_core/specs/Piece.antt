@@ -1,0 +1,38 @@
+-- The parts that the JSON of an answer is made of.
+--   data_tokens    the tokens of a value
+--   list_tokens    the tokens of several values, one after another
+--   items_of       several values as the items of an array
+--   tagged         an array of a tag and of what belongs to it
+--   whole          a whole number
+--   truth          a truth value
+--   text_or_null   a text, or null where there is none
+use Rattle.std.specs.Prelude.{ℕ, ℤ, Bool, List, [], ◌∷◌, ◌++◌, Option, None, Some}
+use Rattle.json.specs.Token.{Token}
+use Rattle.json.specs.Tree.{json_tokens}
+use Rattle.serde_json.specs.Data.{Data, null, boolean, number, string, array, Items, no_items, item}
+use Rattle.serde_json.specs.Find.{of_integer}
+use Rattle.serde_json.specs.Written.{outline}
+
+abbrev pub data_tokens : Data → List Token
+data_tokens value = json_tokens (outline value)
+
+abbrev pub list_tokens : List Data → List Token
+list_tokens [] = []
+list_tokens (value ∷ values) = data_tokens value ++ list_tokens values
+
+abbrev pub items_of : List Data → Items
+items_of [] = no_items
+items_of (value ∷ values) = item value (items_of values)
+
+abbrev pub tagged : List ℕ → List Data → Data
+tagged tag parts = array (item (string tag) (items_of parts))
+
+abbrev pub whole : ℤ → Data
+whole n = number (of_integer n)
+
+abbrev pub truth : Bool → Data
+truth = boolean
+
+abbrev pub text_or_null : Option (List ℕ) → Data
+text_or_null None = null
+text_or_null (Some text) = string text

@@ -1,0 +1,18 @@
+//! The text of an answer, written straight from its trees: no value in between.
+//!
+//! - `answer`: the whole line of an answer.
+//! - `formula`: the JSON form of a formula, over all its nodes.
+//! - `reference`: the forms of a reference and of a range.
+//! - `tag`: the word that begins an operator's form.
+//! - `piece`: an array's ends, a whole number, and a text or null.
+#![tactic(auto)]
+
+pub use answer::answer_line;
+
+mod answer;
+mod formula;
+mod piece;
+mod reference;
+mod tag;
+#[cfg(test)]
+mod tests;

@@ -1,0 +1,5 @@
+pub mod Answer
+pub mod Fields
+pub mod Formula
+pub mod Request
+pub mod Tags

@@ -1,0 +1,65 @@
+-- The request that bytes are: a JSON object with exactly the keys `sheets`, `cells`, `cell` and `formula`.
+--
+-- `data_of`       the JSON value that bytes are, if they are UTF-8; of equal keys the last one counts
+-- `has_members`   that a value is an object with that many keys
+-- `texts_in`      that each element of an array is a text
+-- `sheets_in`     the sheets: an array of at most 2^32 - 1 texts
+-- `cells_in`      the cells: the empty array
+-- `cell_in`       the cell of the formula: its sheet, row and column
+-- `request_in`    the request that a JSON value is
+-- `request_of`    the request that bytes are
+use Rattle.std.specs.Prelude.{ℕ, ◌^◌, ◌==◌, List, length, codes, nat_lt, is_some, if◌then◌else◌, Option, Some, None, ⊤}
+use Rattle.std.specs.List.{list_all}
+use Rattle.std.specs.Str.{is_utf8}
+use Rattle.serde_json.specs.Data.{Data}
+use Rattle.serde_json.specs.Events.{members_len}
+use Rattle.serde_json.specs.Find.{as_object, as_str, get}
+use Rattle.serde_json.specs.Read.{read}
+use Rattle.request_core.specs.declared.request.Request.{Request}
+use Rattle.request_core.specs.Fields.{◌>>=◌, places_in, if_long, u32_at, i32_at}
+use Rattle.request_core.specs.Formula.{node_of}
+
+unfoldable pub data_of : List ℕ → Option Data
+data_of bytes = if is_utf8 bytes then read bytes else None
+
+unfoldable pub has_members : ℕ → Data → Option ⊤
+has_members count datum = do
+  members ← as_object datum
+  if members_len members == count then Some tt else None
+
+unfoldable pub texts_in : List Data → Option ⊤
+texts_in places = if list_all (λ place. is_some (as_str place)) places then Some tt else None
+
+unfoldable pub sheets_in : Data → Option ⊤
+sheets_in datum = do
+  places ← places_in datum
+  texts ← texts_in places
+  if nat_lt (length places) (2 ^ 32) then Some tt else None
+
+unfoldable pub cells_in : Data → Option ⊤
+cells_in datum = do
+  places ← places_in datum
+  if_long 0 places (Some tt)
+
+unfoldable pub cell_in : Data → Option ⊤
+cell_in datum = do
+  places ← places_in datum
+  if_long 3 places do
+    sheet ← u32_at 0 places
+    row ← i32_at 1 places
+    column ← i32_at 2 places
+    Some tt
+
+unfoldable pub request_in : Data → Option Request
+request_in datum = do
+  exactly ← has_members 4 datum
+  sheets ← get (codes "sheets") datum >>= sheets_in
+  cells ← get (codes "cells") datum >>= cells_in
+  cell ← get (codes "cell") datum >>= cell_in
+  formula ← get (codes "formula") datum >>= node_of
+  Some (record { formula = formula })
+
+unfoldable pub request_of : List ℕ → Option Request
+request_of bytes = do
+  datum ← data_of bytes
+  request_in datum

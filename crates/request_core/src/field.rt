@@ -1,0 +1,128 @@
+//! What one place of an array may hold. Place 0 is the first.
+ghost use Rattle.std.specs.Prelude.{◌≡◌, ◌==◌, if◌then◌else◌, map, length, option_map, slice_get, Some, None};
+ghost use Rattle.serde_json.specs.View.{view};
+ghost use Rattle.request_core.specs.Answer.{Finds, FindsBy, Gives};
+ghost use Rattle.request_core.specs.Fields.{places_in, u32_at, i32_at, i64_at, truth_at, text_at, name_at};
+
+use crate::error::RequestError;
+use serde_json::Value;
+use std::alloc::Global;
+use tree_core::Text;
+
+/// The elements of a value that is an array.
+#[tactic(auto, unfolding(crate::specs::Fields::places_in), using(crate::proofs::Seen::elements))]
+pub fn read_array(value: &Value) -> Result<&[Value], RequestError>
+    ensures { FindsBy (λ items. map view items.now) result (places_in (view value.now)) }
+{
+    match value.as_array() {
+        Some(items) => Ok(items.as_slice()),
+        None => Err(RequestError::NotOfForm),
+    }
+}
+
+fn item_at(items: &[Value], place: usize) -> Option<&Value>
+    ensures { option_map (λ value. view value.now) result ≡ slice_get (map view items.now) place }
+{
+    if place < items.len() {
+        Some(&items[place])
+    } else {
+        None
+    }
+}
+
+/// Refuses an array that has fewer or more elements.
+pub fn check_length(items: &[Value], count: usize) -> Result<(), RequestError>
+    ensures { Finds result (if length items.now == count then Some tt else None) }
+{
+    if items.len() == count {
+        Ok(())
+    } else {
+        Err(RequestError::NotOfForm)
+    }
+}
+
+/// A whole number from 0 to 2^32 - 1.
+#[tactic(auto, unfolding(crate::specs::Fields::u32_at))]
+pub fn read_u32(items: &[Value], place: usize) -> Result<u32, RequestError>
+    ensures { Finds result (u32_at place (map view items.now)) }
+{
+    let Some(value) = item_at(items, place) else {
+        return Err(RequestError::NotOfForm);
+    };
+    match value.as_u64() {
+        Some(whole) if whole <= u32::MAX as u64 => Ok(whole as u32),
+        _ => Err(RequestError::NotOfForm),
+    }
+}
+
+/// A whole number from -2^63 to 2^63 - 1.
+#[tactic(auto, unfolding(crate::specs::Fields::i64_at))]
+pub fn read_i64(items: &[Value], place: usize) -> Result<i64, RequestError>
+    ensures { Finds result (i64_at place (map view items.now)) }
+{
+    let Some(value) = item_at(items, place) else {
+        return Err(RequestError::NotOfForm);
+    };
+    match value.as_i64() {
+        Some(whole) => Ok(whole),
+        None => Err(RequestError::NotOfForm),
+    }
+}
+
+/// A whole number from -2^31 to 2^31 - 1.
+#[tactic(auto, unfolding(crate::specs::Fields::i32_at))]
+pub fn read_i32(items: &[Value], place: usize) -> Result<i32, RequestError>
+    ensures { Finds result (i32_at place (map view items.now)) }
+{
+    let whole = read_i64(items, place)?;
+    if i32::MIN as i64 <= whole && whole <= i32::MAX as i64 {
+        Ok(whole as i32)
+    } else {
+        Err(RequestError::NotOfForm)
+    }
+}
+
+/// A truth value.
+#[tactic(auto, unfolding(crate::specs::Fields::truth_at))]
+pub fn read_truth(items: &[Value], place: usize) -> Result<bool, RequestError>
+    ensures { Finds result (truth_at place (map view items.now)) }
+{
+    let Some(value) = item_at(items, place) else {
+        return Err(RequestError::NotOfForm);
+    };
+    match value.as_bool() {
+        Some(truth) => Ok(truth),
+        None => Err(RequestError::NotOfForm),
+    }
+}
+
+/// A text, borrowed.
+#[tactic(auto, unfolding(crate::specs::Fields::text_at))]
+pub fn read_text(items: &[Value], place: usize) -> Result<&str, RequestError>
+    ensures { FindsBy (λ text. text.now) result (text_at place (map view items.now)) }
+{
+    let Some(value) = item_at(items, place) else {
+        return Err(RequestError::NotOfForm);
+    };
+    match value.as_str() {
+        Some(text) => Ok(text),
+        None => Err(RequestError::NotOfForm),
+    }
+}
+
+/// A text, or null, which is no name.
+#[tactic(auto, unfolding(crate::specs::Fields::name_at))]
+pub fn read_name(alloc: Global, items: &[Value], place: usize) -> Result<Option<Text>, RequestError>
+    ensures { Gives result (name_at place (map view items.now)) }
+{
+    let Some(value) = item_at(items, place) else {
+        return Err(RequestError::NotOfForm);
+    };
+    if value.is_null() {
+        return Ok(None);
+    }
+    match value.as_str() {
+        Some(name) => Ok(Some(Text::from_text(alloc, name)?)),
+        None => Err(RequestError::NotOfForm),
+    }
+}

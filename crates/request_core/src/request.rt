@@ -1,0 +1,127 @@
+ghost use Rattle.std.specs.Prelude.{◌≡◌, IfOk, Some, None, option_and_then, codes, is_some, map};
+ghost use Rattle.std.specs.List.{list_all};
+ghost use Rattle.serde_json.specs.Find.{as_str, get};
+ghost use Rattle.serde_json.specs.View.{view};
+ghost use Rattle.request_core.specs.Answer.{Finds, FindsBy, Gives, GivesBy};
+ghost use Rattle.request_core.specs.Request.{data_of, has_members, texts_in, sheets_in, cells_in, cell_in, request_in, request_of};
+
+use crate::error::RequestError;
+use crate::field::{check_length, read_array, read_i32, read_u32};
+use crate::node::read_node;
+use serde_json::Value;
+use std::alloc::Global;
+use tree_core::Node;
+
+/// What is asked for.
+#[derive(Debug, Drop)]
+pub struct Request {
+    /// The formula to answer.
+    pub formula: Node,
+}
+
+/// The request that the bytes of a JSON text are: an object with exactly the keys `sheets`, `cells`, `cell` and `formula`.
+#[tactic(auto, unfolding(crate::specs::Request::request_of))]
+pub fn read_request(alloc: Global, bytes: &[u8]) -> Result<Request, RequestError>
+    ensures found { IfOk result (λ request. request_of bytes.now ≡ Some request) }
+    ensures not_of_form { result ≡ Err RequestError.NotOfForm → request_of bytes.now ≡ None }
+{
+    let value = parse(alloc, bytes)?;
+    let request = read_value(alloc, &value)?;
+    Ok(request)
+}
+
+fn parse(alloc: Global, bytes: &[u8]) -> Result<Value, RequestError>
+    ensures { GivesBy view result (data_of bytes.now) }
+{
+    match Value::from_slice(alloc, bytes) {
+        Ok(value) => Ok(value),
+        Err(error) => {
+            if error.is_memory() {
+                Err(RequestError::Memory)
+            } else {
+                Err(RequestError::NotOfForm)
+            }
+        }
+    }
+}
+
+#[tactic(auto, unfolding(crate::specs::Request::request_in))]
+fn read_value(alloc: Global, value: &Value) -> Result<Request, RequestError>
+    ensures { Gives result (request_in (view value.now)) }
+{
+    check_members(value, 4)?;
+    check_sheets(member(value, "sheets")?)?;
+    check_cells(member(value, "cells")?)?;
+    check_cell(member(value, "cell")?)?;
+    let formula = read_node(alloc, member(value, "formula")?)?;
+    Ok(Request { formula })
+}
+
+#[tactic(auto, unfolding(crate::specs::Request::has_members), using(crate::proofs::Seen::members))]
+fn check_members(value: &Value, count: usize) -> Result<(), RequestError>
+    ensures { Finds result (has_members count (view value.now)) }
+{
+    match value.as_object() {
+        Some(members) if members.len() == count => Ok(()),
+        _ => Err(RequestError::NotOfForm),
+    }
+}
+
+fn member<'v>(value: &'v Value, key: &str) -> Result<&'v Value, RequestError>
+    ensures { FindsBy (λ found. view found.now) result (get key.now (view value.now)) }
+{
+    match value.get(key) {
+        Some(found) => Ok(found),
+        None => Err(RequestError::NotOfForm),
+    }
+}
+
+#[tactic(auto, unfolding(crate::specs::Request::sheets_in))]
+fn check_sheets(value: &Value) -> Result<(), RequestError>
+    ensures { Finds result (sheets_in (view value.now)) }
+{
+    let items = read_array(value)?;
+    check_texts(items)?;
+    if items.len() <= u32::MAX as usize {
+        Ok(())
+    } else {
+        Err(RequestError::NotOfForm)
+    }
+}
+
+#[tactic(auto, using(crate::proofs::Seen::texts))]
+fn check_texts(items: &[Value]) -> Result<(), RequestError>
+    ensures { Finds result (texts_in (map view items.now)) }
+{
+    if are_texts(items) {
+        Ok(())
+    } else {
+        Err(RequestError::NotOfForm)
+    }
+}
+
+fn are_texts(items: &[Value]) -> bool
+    ensures { result ≡ list_all (λ item. is_some (as_str (view item))) items.now }
+{
+    items.iter().all(|item| item.is_string())
+}
+
+#[tactic(auto, unfolding(crate::specs::Request::cells_in))]
+fn check_cells(value: &Value) -> Result<(), RequestError>
+    ensures { Finds result (cells_in (view value.now)) }
+{
+    let items = read_array(value)?;
+    check_length(items, 0)
+}
+
+#[tactic(auto, unfolding(crate::specs::Request::cell_in))]
+fn check_cell(value: &Value) -> Result<(), RequestError>
+    ensures { Finds result (cell_in (view value.now)) }
+{
+    let items = read_array(value)?;
+    check_length(items, 3)?;
+    read_u32(items, 0)?;
+    read_i32(items, 1)?;
+    read_i32(items, 2)?;
+    Ok(())
+}
