@@ -15,5 +15,6 @@ mod answer;
 mod program;
 mod reading;
 mod refusal;
-
 mod status;
+#[cfg(test)]
+mod tests;

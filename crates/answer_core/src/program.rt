@@ -1,6 +1,6 @@
 ghost use Rattle.std.specs.Prelude.{◌≡◌, ◌+◌, ◌<◌, ◌-◌, ◌^◌, ◌⊎◌, ℕ, List, Some};
 ghost use Rattle.device_core.specs.Faults.{Rose};
-ghost use Rattle.device_core.specs.Flow.{Adds, AddsFront, ConsumesCount};
+ghost use Rattle.device_core.specs.Flow.{Adds, AddsFront, ConsumesAtMost, ConsumesCount};
 ghost use Rattle.request_core.specs.Request.{request_of};
 ghost use Rattle.answer_core.specs.Command.{IsAnswer};
 ghost use Rattle.answer_core.specs.Refusal.{status_of, line_of};
@@ -34,7 +34,8 @@ pub fn run<S: Source, W: Sink>(
     ensures bad_json { result ≡ Status.BadJson → IsNoRequest (S.unread source.old) (S.unread source.new) }
     ensures too_long { result ≡ Status.TooLong
         → ConsumesCount (S.unread source.old) (S.unread source.new) (LIMIT + 1) }
-    ensures read_fault { result ≡ Status.ReadFault → Rose (S.faults source.old) (S.faults source.new) }
+    ensures read_fault { result ≡ Status.ReadFault → Rose (S.faults source.old) (S.faults source.new)
+        × ConsumesAtMost (S.unread source.old) (S.unread source.new) LIMIT }
     ensures write_fault { result ≡ Status.WriteFault → Rose (W.faults sink.old) (W.faults sink.new) }
 
     // A refusal writes its line, and a fault of the sink leaves a front of what was to be written.
