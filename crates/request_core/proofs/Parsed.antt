@@ -11,6 +11,7 @@ pub data_of-text : (bytes : List ℕ) (datum : Data) → IsUtf8 bytes → read b
 unfolding data_of
 data_of-text bytes datum text reads = rw (is_utf8-from_IsUtf8 bytes text) reads
 
+-- nothing is found where a test fails, and nothing where it passes
 tested : (test : Bool) (found : Option Data) → (test ≡ true → found ≡ None) → (if test then found else None) ≡ None
 tested true found refused = refused refl
 tested false found refused = refl

@@ -10,12 +10,15 @@ use Rattle.request_core.specs.Fields.{fields}
 use Rattle.request_core.specs.Formula.{node_in, node_of, nodes_of, node_seen}
 use Rattle.request_core.specs.Request.{texts_in}
 
+-- the elements of a parsed array, each as its data
 pub fields-items_view : (values : List Value) → fields (items_view values) ≡ map view values
 fields-items_view [] = refl
 fields-items_view (value ∷ values) = ap (λ places. view value ∷ places) (fields-items_view values)
 
+-- for a reader of an array
 pub ruleset elements = (fields-items_view)
 
+-- the nodes of a parsed array's elements
 pub nodes_of-items_view : (values : List Value) → nodes_of (items_view values) ≡ map node_seen values
 unfolding nodes_of
 nodes_of-items_view [] = refl
@@ -26,10 +29,13 @@ pub node_of-Array : (values : Vec Value Global) → node_of (view (Array values)
 unfolding node_of
 node_of-Array values = rw (view-Array, fields-items_view, nodes_of-items_view) refl
 
+-- for a reader that counts keys
 pub ruleset members = (members_len-members_view)
 
+-- that all elements of a parsed array are texts
 pub texts_in-map : (values : List Value) → texts_in (map view values) ≡ (if list_all (λ value. is_some (as_str (view value))) values then Some tt else None)
 unfolding texts_in
 texts_in-map values = ap (λ passes. if passes then Some tt else None) (list_all-map (λ place. is_some (as_str place)) view values)
 
+-- for a reader of texts
 pub ruleset texts = (texts_in-map)
