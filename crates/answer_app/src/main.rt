@@ -3,9 +3,8 @@
 
 use answer_core::run;
 use device_core::{StdSink, StdSource};
-use std::env;
-use std::io;
 use std::process::ExitCode;
+use std::{env, io};
 
 /// The exit status where memory for the words of the command line ran out.
 const NO_MEMORY: u8 = 8;

@@ -1,9 +1,9 @@
 -- The imported formula exists, and is the only one.
-use Rattle.std.proofs.Common.{◌≡◌, List, [], ◌∷◌, Bool, true, false, ◌&&◌, cond, Option, Some, None, refl, sym, ap, ◌∙◌, subst}
+use Rattle.std.proofs.Common.{◌≡◌, [], ◌∷◌, Bool, true, false, ◌&&◌, Some, None, refl, sym, ap, ◌∙◌, subst}
 use Rattle.std.proofs.lemmas.Bool.{and_parts, and_from, false_from_ne_true, false≢true}
 use Rattle.std.specs.Option.{option_map_or}
 use Rattle.tree_core.specs.Tree.{Run, Tree, run_of, label_of, children_of}
-use Rattle.tree_core.specs.Place.{Place, at, run_at, with_runs}
+use Rattle.tree_core.specs.Place.{Place, at, run_at}
 use Rattle.tree_core.proofs.Places.{skeleton-with_runs, run_at-with_runs, own_run, runs_fix_the_tree}
 use Rattle.intersect.specs.Rule.{Rule, IsWantedRange, wanted, range_like_at}
 use Rattle.intersect.specs.Reached.{IsReached}

@@ -1,15 +1,13 @@
 -- The import of each kind of node, from the imports of its children.
-use Rattle.std.proofs.Common.{◌≡◌, List, [], ◌∷◌, Bool, true, false, not, ◌&&◌, ◌||◌, refl, sym, ap, ◌∙◌}
-use Rattle.std.proofs.lemmas.Bool.{or_parts, not-false, true≢false}
-use Rattle.tree_core.specs.Label.{Label, Leaf, leaf, number, reference, range, Passing, passing}
-use Rattle.tree_core.specs.Tree.{Run, Tree, tree, Trees, none, more, under, run_of, label_of}
+use Rattle.std.proofs.Common.{◌≡◌, [], ◌∷◌, Bool, true, false, not, ◌&&◌, ◌||◌, refl, ap, ◌∙◌}
+use Rattle.tree_core.specs.Label.{Label, leaf, number, reference, range, Passing, passing}
+use Rattle.tree_core.specs.Tree.{Run, Tree, tree, Trees, under, run_of, label_of}
 use Rattle.tree_core.specs.Place.{Place, with_runs, run_at}
 use Rattle.tree_core.specs.Formula.{one, two}
 use Rattle.tree_core.proofs.Places.{with_runs-run_at}
 use Rattle.tree_core.proofs.Formulas.{tree_of-sum, tree_of-unary, tree_of-intersection}
-use Rattle.intersect.specs.Imported.{merged}
 use Rattle.intersect.specs.ImportOf.{is_bare, import_of, imported_run}
-use Rattle.intersect.specs.ImportRule.{import_rule, is_range_like, is_range}
+use Rattle.intersect.specs.ImportRule.{import_rule, is_range_like}
 
 pub import_of-two : (add : Bool) (p : Passing) (t u : Tree) → import_of import_rule add (tree [] (passing p) (two t u)) ≡ tree [] (passing p) (two (import_of import_rule add t) (import_of import_rule add u))
 import_of-two true p t u = refl

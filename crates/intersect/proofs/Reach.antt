@@ -1,11 +1,11 @@
 -- The way down to a place and the places properly above it say the same of what import reaches.
-use Rattle.std.proofs.Common.{◌≡◌, ℕ, List, [], ◌∷◌, ◌++◌, Bool, true, false, not, ◌&&◌, ◌||◌, Option, Some, None, ◌⊎◌, inl, inr, refl, sym, ap, ◌∙◌, subst}
+use Rattle.std.proofs.Common.{◌≡◌, ℕ, [], ◌∷◌, ◌++◌, Bool, true, not, Some, None, inl, inr, refl, ap, subst}
 use Rattle.std.proofs.lemmas.Bool.{and_parts, and_from, or_cases, or_left, or_right, not-true, not_from_false}
 use Rattle.std.specs.Option.{option_map_or}
 use Rattle.tree_core.specs.Label.{Label}
-use Rattle.tree_core.specs.Tree.{Run, Tree, tree, Trees, label_of, children_of}
-use Rattle.tree_core.specs.Place.{Place, child, at, run_at}
-use Rattle.intersect.specs.Rule.{Rule, IsWantedRange}
+use Rattle.tree_core.specs.Tree.{Run, Tree, tree, Trees}
+use Rattle.tree_core.specs.Place.{Place, child}
+use Rattle.intersect.specs.Rule.{Rule}
 use Rattle.intersect.specs.Reached.{IsOpen, IsReached}
 use Rattle.intersect.specs.ImportOf.{is_bare, opens, reached}
 

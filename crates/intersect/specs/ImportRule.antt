@@ -1,8 +1,7 @@
 -- The rule that a spreadsheet's import goes by.
 --   import_rule  a range is range-like, and each child has the context of its parent
-use Rattle.std.specs.Prelude.{ℕ, Bool, true, false}
+use Rattle.std.specs.Prelude.{Bool, true, false}
 use Rattle.tree_core.specs.Label.{Label, Leaf, leaf, number, reference, range, passing}
-use Rattle.tree_core.specs.Tree.{Trees}
 use Rattle.intersect.specs.Rule.{Rule}
 
 abbrev pub is_range : Leaf → Bool

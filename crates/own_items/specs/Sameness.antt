@@ -3,9 +3,9 @@
 --   same        two values have one code
 --   same_from_iff     so they are one value
 --   same-laws   and the test is an equivalence
-use Rattle.std.specs.Prelude.{◌≡◌, ℕ, Bool, true, false, ◌&&◌, ◌==◌, ◌↔◌, IsTrue, refl}
+use Rattle.std.specs.Prelude.{◌≡◌, Bool, true, false, ◌&&◌, ◌==◌, ◌↔◌, IsTrue, refl}
 use Rattle.std.specs.Coded.{Coded}
-use Rattle.std.specs.Cmp.{IsEquivalence, IsPartialEquivalence, partial_equiv_from_equiv}
+use Rattle.std.specs.Cmp.{IsPartialEquivalence}
 use Rattle.std.proofs.Common.{sym, ap, ap₂, ◌∙◌, subst}
 use Rattle.std.proofs.lemmas.Bool.{and_parts, and_from, eqb-true, eq-eqb}
 use base.Stored.{Gv, gnil, gnum, gcons}
@@ -55,8 +55,8 @@ module _ {A : Type 0} (coded : Coded A) where
   pub same-laws : IsPartialEquivalence same
   same-laws = record {
     symm = λ a b. elim (same a b) as (λ v. same a b ≡ v → v ≡ same b a) [
-        true ↦ λ e. sym (same_since b a (sym (one_value a b e)))
+      | true ↦ λ e. sym (same_since b a (sym (one_value a b e)))
       | false ↦ λ e. elim (same b a) as (λ w. same b a ≡ w → false ≡ w) [ true ↦ λ f. sym e ∙ same_since a b (sym (one_value b a f)) | false ↦ λ f. refl ] refl
-      ] refl;
+    ] refl;
     trans = λ a b c p q. same_since a c (one_value a b p ∙ one_value b c q);
   }

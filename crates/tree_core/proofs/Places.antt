@@ -1,5 +1,5 @@
 -- Trees by their skeletons and runs.
-use Rattle.std.proofs.Common.{◌≡◌, ℕ, zero, suc, List, [], ◌∷◌, ◌++◌, Option, Some, None, option_map, refl, sym, ap, ap₂, ◌∙◌, append-nil}
+use Rattle.std.proofs.Common.{◌≡◌, ℕ, zero, suc, [], ◌∷◌, ◌++◌, Some, None, option_map, refl, sym, ap, ap₂, ◌∙◌, append-nil}
 use Rattle.std.specs.Option.{option_map_or}
 use Rattle.tree_core.specs.Label.{Label}
 use Rattle.tree_core.specs.Tree.{Run, Tree, tree, Trees, none, more, run_of, label_of, children_of, skeleton, skeletons}
