@@ -1,0 +1,5 @@
+pub mod OwnRows
+pub mod Complete
+pub mod Ascending
+pub mod Found
+pub mod Sorts

@@ -1,0 +1,12 @@
+pub mod Shape
+pub mod OwnRow
+pub mod Pattern
+pub mod OwnSignature
+pub mod Table
+pub mod ShapePattern
+pub mod CrateTable
+pub mod ShapeLaws
+pub mod Lawful
+pub mod PairTable
+pub mod PairLaws
+pub mod Names

@@ -1,0 +1,54 @@
+ghost use Rattle.std.specs.Prelude.{◌≡◌};
+ghost use Rattle.kind_table.specs.PairTable.{is_large, pair_table};
+ghost use Rattle.kind_table.specs.PairLaws.{pair_table_is_lawful};
+
+use crate::asks::Asks;
+use crate::kinds::Kinds;
+use crate::signature::Signature;
+use crate::static_result::StaticResult;
+use call_core::Steps;
+
+/// A second table, for tests: it knows the number 0 alone, takes each argument as one value, and its shape is `Unknown`
+/// where at least two arguments may have more than one value.
+#[derive(Clone, Copy, Debug)]
+pub struct PairKinds;
+
+impl Kinds for PairKinds {
+    ghost table = { λ _. pair_table };
+
+    ghost lawful = { λ _. pair_table_is_lawful };
+
+    fn knows(&self, id: u16) -> bool {
+        id == 0
+    }
+
+    fn signature(&self, _id: u16, count: usize, index: usize) -> Signature {
+        if index < count {
+            Signature::Scalar
+        } else {
+            Signature::Error
+        }
+    }
+}
+
+impl<L> Asks<L> for PairKinds {
+    fn shape(&self, _id: u16, shapes: &[StaticResult], steps: &mut Steps<L>) -> StaticResult {
+        steps.tick();
+        if shapes.iter().filter(|shape| is_large(**shape)).count() >= 2 {
+            StaticResult::Unknown
+        } else {
+            StaticResult::Scalar
+        }
+    }
+}
+
+fn is_large(shape: StaticResult) -> bool
+    ensures { result ≡ is_large shape }
+{
+    match shape {
+        StaticResult::Scalar => false,
+        StaticResult::Array(rows, columns) => rows > 1 || columns > 1,
+        StaticResult::Range(rows, columns) => rows > 1 || columns > 1,
+        StaticResult::Unknown => true,
+    }
+}
