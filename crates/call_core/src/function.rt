@@ -1,4 +1,4 @@
-ghost use Rattle.std.specs.Prelude.{◌≡◌, ◌↔◌, IsTrue};
+ghost use Rattle.std.specs.Prelude.{◌≡◌, ◌↔◌, ◌≤◌, IsTrue};
 ghost use Rattle.call_core.specs.FunctionCode.{function_code};
 
 /// The kinds of functions that a call may be of: the kinds with rules of their own, and by number all others.
@@ -69,6 +69,15 @@ impl Function {
             Function::Wrapcols => 13,
             Function::Wraprows => 14,
             Function::Sequence => 15,
+            _ => self.later_code(),
+        }
+    }
+
+    fn later_code(self) -> u32
+        requires { 16 ≤ function_code self }
+        ensures { result ≡ function_code self }
+    {
+        match self {
             Function::Index => 16,
             Function::Offset => 17,
             Function::Choose => 18,
@@ -93,6 +102,7 @@ impl Function {
             Function::Bycol => 37,
             Function::Makearray => 38,
             Function::Other(number) => 39 + number as u32,
+            _ => unreachable!(),
         }
     }
 

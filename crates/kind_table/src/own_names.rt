@@ -1,4 +1,5 @@
-ghost use Rattle.std.specs.Prelude.{◌≡◌, ◌↔◌, option_map};
+ghost use Rattle.std.specs.Prelude.{◌≡◌, ◌↔◌, ◌≤◌, option_map};
+ghost use Rattle.call_core.specs.FunctionCode.{function_code};
 ghost use Rattle.call_core.specs.declared.function.Function.{Function};
 ghost use Rattle.kind_table.specs.Names.{own_in, own_name};
 
@@ -26,6 +27,16 @@ pub fn own_name(kind: Function) -> Option<&'static str>
         Function::Wrapcols => "WRAPCOLS",
         Function::Wraprows => "WRAPROWS",
         Function::Sequence => "SEQUENCE",
+        _ => return later_own_name(kind),
+    })
+}
+
+/// The names from INDEX on.
+fn later_own_name(kind: Function) -> Option<&'static str>
+    requires { 16 ≤ function_code kind }
+    ensures { option_map (λ name. name.now) result ≡ own_name kind }
+{
+    Some(match kind {
         Function::Index => "INDEX",
         Function::Offset => "OFFSET",
         Function::Choose => "CHOOSE",
@@ -50,6 +61,7 @@ pub fn own_name(kind: Function) -> Option<&'static str>
         Function::Bycol => "BYCOL",
         Function::Makearray => "MAKEARRAY",
         Function::Other(_) => return None,
+        _ => unreachable!(),
     })
 }
 

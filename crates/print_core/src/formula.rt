@@ -1,6 +1,7 @@
 ghost use Rattle.std.specs.Prelude.{◌≡◌, ◌++◌, ◌∷◌, [], OnOk, codes};
 ghost use Rattle.print_core.specs.Piece.{data_tokens, tagged, whole, truth};
 ghost use Rattle.print_core.specs.Formula.{node_data};
+ghost use Rattle.tree_core.specs.Variant.{IsRange};
 
 use crate::piece::{begin, end, write_whole};
 use crate::reference::{Corner, write_range, write_reference};
@@ -28,6 +29,25 @@ pub(crate) fn write_node(writer: &mut Writer, node: &Node) -> Result<(), Memory>
             let corner = Corner::new(*absolute_row, *absolute_column, *row, *column);
             write_reference(writer, *sheet_index, sheet_name, corner)?
         }
+        Node::RangeKind { .. } => write_range_node(writer, node)?,
+        Node::OpSumKind { kind, left, right } => {
+            write_two(writer, sum_tag(*kind), left.get(), right.get())?
+        }
+        Node::UnaryKind { kind, right } => write_one(writer, unary_tag(*kind), right.get())?,
+        Node::ImplicitIntersection { automatic, child } => {
+            write_at(writer, *automatic, child.get())?
+        }
+    }
+    Ok(())
+}
+
+fn write_range_node(writer: &mut Writer, node: &Node) -> Result<(), Memory>
+    requires { IsRange node.now }
+    ensures before { writer.new.before ≡ writer.old.before }
+    ensures tokens { OnOk result
+        (writer.new.tokens ≡ writer.old.tokens ++ data_tokens (node_data node.now)) }
+{
+    match node {
         Node::RangeKind {
             sheet_name,
             sheet_index,
@@ -42,17 +62,10 @@ pub(crate) fn write_node(writer: &mut Writer, node: &Node) -> Result<(), Memory>
         } => {
             let first = Corner::new(*absolute_row1, *absolute_column1, *row1, *column1);
             let second = Corner::new(*absolute_row2, *absolute_column2, *row2, *column2);
-            write_range(writer, *sheet_index, sheet_name, first, second)?
+            write_range(writer, *sheet_index, sheet_name, first, second)
         }
-        Node::OpSumKind { kind, left, right } => {
-            write_two(writer, sum_tag(*kind), left.get(), right.get())?
-        }
-        Node::UnaryKind { kind, right } => write_one(writer, unary_tag(*kind), right.get())?,
-        Node::ImplicitIntersection { automatic, child } => {
-            write_at(writer, *automatic, child.get())?
-        }
+        _ => unreachable!(),
     }
-    Ok(())
 }
 
 #[inline(never)]

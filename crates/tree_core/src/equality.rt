@@ -1,5 +1,6 @@
 ghost use Rattle.std.specs.Prelude.{◌≡◌, ◌↔◌, IsTrue};
 ghost use Rattle.tree_core.specs.Variant.{IsReference, IsRange};
+ghost use Rattle.tree_core.specs.declared.node.Node.TheVariants.{RangeKind};
 
 use crate::node::Node;
 use crate::text::Text;
@@ -115,6 +116,13 @@ fn is_range(range: &Node, other: &Node) -> bool
     };
     let left = (*absolute_row1, *absolute_column1, *row1, *column1);
     let right = (*absolute_row2, *absolute_column2, *row2, *column2);
+    is_range_of(name, *index, left, right, other)
+}
+
+/// Whether the other node is the range with these ends.
+fn is_range_of(name: &Option<Text>, index: u32, left: Corner, right: Corner, other: &Node) -> bool
+    ensures { IsTrue result ↔ (RangeKind name.now index left.0 left.1 left.2 left.3 right.0 right.1 right.2 right.3 ≡ other.now) }
+{
     let Node::RangeKind {
         sheet_name: other_name,
         sheet_index: other_index,
@@ -133,7 +141,7 @@ fn is_range(range: &Node, other: &Node) -> bool
     let other_left = (*absolute_row1, *absolute_column1, *row1, *column1);
     let other_right = (*absolute_row2, *absolute_column2, *row2, *column2);
     is_name(name, other_name)
-        && *index == *other_index
+        && index == *other_index
         && is_corner(left, other_left)
         && is_corner(right, other_right)
 }

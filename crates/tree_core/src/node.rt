@@ -1,4 +1,5 @@
 ghost use Rattle.std.specs.Prelude.{◌≡◌, IfOk};
+ghost use Rattle.tree_core.specs.Variant.{IsReference, IsRange};
 
 use crate::memory::Memory;
 use crate::operator::{OpSum, OpUnary};
@@ -54,6 +55,36 @@ impl Node {
     {
         match self {
             Node::NumberKind(number) => Ok(Node::NumberKind(*number)),
+            Node::ReferenceKind { .. } => self.clone_reference(alloc),
+            Node::RangeKind { .. } => self.clone_range(alloc),
+            Node::OpSumKind { kind, left, right } => {
+                let left = Box::new(alloc, left.get().try_clone(alloc)?)?;
+                let right = Box::new(alloc, right.get().try_clone(alloc)?)?;
+                Ok(Node::OpSumKind {
+                    kind: *kind,
+                    left,
+                    right,
+                })
+            }
+            Node::UnaryKind { kind, right } => {
+                let right = Box::new(alloc, right.get().try_clone(alloc)?)?;
+                Ok(Node::UnaryKind { kind: *kind, right })
+            }
+            Node::ImplicitIntersection { automatic, child } => {
+                let child = Box::new(alloc, child.get().try_clone(alloc)?)?;
+                Ok(Node::ImplicitIntersection {
+                    automatic: *automatic,
+                    child,
+                })
+            }
+        }
+    }
+
+    fn clone_reference(&self, alloc: Global) -> Result<Node, Memory>
+        requires { IsReference self.now }
+        ensures { IfOk result (λ copy. copy ≡ self.now) }
+    {
+        match self {
             Node::ReferenceKind {
                 sheet_name,
                 sheet_index,
@@ -69,6 +100,15 @@ impl Node {
                 row: *row,
                 column: *column,
             }),
+            _ => unreachable!(),
+        }
+    }
+
+    fn clone_range(&self, alloc: Global) -> Result<Node, Memory>
+        requires { IsRange self.now }
+        ensures { IfOk result (λ copy. copy ≡ self.now) }
+    {
+        match self {
             Node::RangeKind {
                 sheet_name,
                 sheet_index,
@@ -92,26 +132,7 @@ impl Node {
                 row2: *row2,
                 column2: *column2,
             }),
-            Node::OpSumKind { kind, left, right } => {
-                let left = Box::new(alloc, left.get().try_clone(alloc)?)?;
-                let right = Box::new(alloc, right.get().try_clone(alloc)?)?;
-                Ok(Node::OpSumKind {
-                    kind: *kind,
-                    left,
-                    right,
-                })
-            }
-            Node::UnaryKind { kind, right } => {
-                let right = Box::new(alloc, right.get().try_clone(alloc)?)?;
-                Ok(Node::UnaryKind { kind: *kind, right })
-            }
-            Node::ImplicitIntersection { automatic, child } => {
-                let child = Box::new(alloc, child.get().try_clone(alloc)?)?;
-                Ok(Node::ImplicitIntersection {
-                    automatic: *automatic,
-                    child,
-                })
-            }
+            _ => unreachable!(),
         }
     }
 }
