@@ -12,9 +12,6 @@ pub const LIMIT: usize = 16_777_216;
 // How many bytes a call asks for.
 const PIECE: usize = 4096;
 
-// The most bytes of an input that gets no room for the longest one.
-const SHORT: usize = 65536;
-
 /// Why a source was not read to its end.
 #[derive(Clone, Copy, Debug, PartialEq, Eq)]
 pub enum ReadError {
@@ -73,20 +70,6 @@ pub fn read_to_end<S: Source>(alloc: Global, source: &mut S) -> Result<Vec<u8>, 
             return Ok(bytes);
         }
         bytes.extend_from_slice(&piece[..count])?;
-        make_room(&mut bytes)?;
     }
     Err(ReadError::TooLong)
-}
-
-/// Room for the longest input, once there is more than a short one: so that a long one is moved once, and not each time
-/// that it has doubled. Room that is not written to costs nothing.
-fn make_room(bytes: &mut Vec<u8>) -> Result<(), AllocError>
-    requires { vec_len bytes.old ≤ LIMIT + 1 }
-    ensures items { bytes.new.items ≡ bytes.old.items }
-    ensures len { vec_len bytes.new ≡ vec_len bytes.old }
-{
-    if bytes.len() > SHORT && bytes.capacity() <= LIMIT {
-        bytes.reserve_exact(LIMIT + 1 - bytes.len())?;
-    }
-    Ok(())
 }
