@@ -1,6 +1,7 @@
 -- The request that bytes are: a JSON object with exactly the keys `sheets`, `cells`, `cell` and `formula`.
 --
 -- `data_of`       the JSON value that bytes are, if they are UTF-8; of equal keys the last one counts
+-- `is_blank`      that a byte may stand between the words of a JSON text
 -- `has_members`   that a value is an object with that many keys
 -- `texts_in`      that each element of an array is a text
 -- `sheets_in`     the sheets: an array of at most 2^32 - 1 texts
@@ -8,7 +9,7 @@
 -- `cell_in`       the cell of the formula: its sheet, row and column
 -- `request_in`    the request that a JSON value is
 -- `request_of`    the request that bytes are
-use Rattle.std.specs.Prelude.{ℕ, ◌^◌, ◌==◌, List, length, codes, nat_lt, is_some, if◌then◌else◌, Option, Some, None, ⊤}
+use Rattle.std.specs.Prelude.{ℕ, ◌^◌, ◌==◌, ◌||◌, Bool, List, length, codes, nat_lt, is_some, if◌then◌else◌, Option, Some, None, ⊤}
 use Rattle.std.specs.List.{list_all}
 use Rattle.std.specs.Str.{is_utf8}
 use Rattle.serde_json.specs.Data.{Data}
@@ -21,6 +22,9 @@ use Rattle.request_core.specs.Formula.{node_of}
 
 unfoldable pub data_of : List ℕ → Option Data
 data_of bytes = if is_utf8 bytes then read bytes else None
+
+abbrev pub is_blank : ℕ → Bool
+is_blank byte = (byte == 32) || (byte == 9) || (byte == 10) || (byte == 13)
 
 unfoldable pub has_members : ℕ → Data → Option ⊤
 has_members count datum = do

@@ -3,7 +3,7 @@ ghost use Rattle.std.specs.List.{list_all};
 ghost use Rattle.serde_json.specs.Find.{as_str, get};
 ghost use Rattle.serde_json.specs.View.{view};
 ghost use Rattle.request_core.specs.Answer.{Finds, FindsBy, Gives, GivesBy};
-ghost use Rattle.request_core.specs.Request.{data_of, has_members, texts_in, sheets_in, cells_in, cell_in, request_in, request_of};
+ghost use Rattle.request_core.specs.Request.{is_blank, data_of, has_members, texts_in, sheets_in, cells_in, cell_in, request_in, request_of};
 
 use crate::error::RequestError;
 use crate::field::{check_length, read_array, read_i32, read_u32};
@@ -33,6 +33,10 @@ pub fn read_request(alloc: Global, bytes: &[u8]) -> Result<Request, RequestError
 fn parse(alloc: Global, bytes: &[u8]) -> Result<Value, RequestError>
     ensures { GivesBy view result (data_of bytes.now) }
 {
+    // The reader would hold as much again, and walk the blanks twice.
+    if are_blank(bytes) {
+        return Err(RequestError::NotOfForm);
+    }
     match Value::from_slice(alloc, bytes) {
         Ok(value) => Ok(value),
         Err(error) => {
@@ -43,6 +47,18 @@ fn parse(alloc: Global, bytes: &[u8]) -> Result<Value, RequestError>
             }
         }
     }
+}
+
+fn are_blank(bytes: &[u8]) -> bool
+    ensures { result ≡ list_all is_blank bytes.now }
+{
+    bytes.iter().all(|byte| is_blank(*byte))
+}
+
+fn is_blank(byte: u8) -> bool
+    ensures { result ≡ is_blank byte }
+{
+    byte == b' ' || byte == b'\t' || byte == b'\n' || byte == b'\r'
 }
 
 #[tactic(auto, unfolding(crate::specs::Request::request_in))]

@@ -121,6 +121,7 @@ fn other_formulas_are_refused(rt: HostRuntime) -> Result<(), Fail> {
 fn other_texts_are_refused(rt: HostRuntime) {
     for text in [
         "",
+        " \t\r\n ",
         "null",
         "[]",
         "{",
