@@ -2,6 +2,7 @@
 --   Run       the `automatic` flags of the `@`s that stand directly over a node, outermost first
 --   Tree      a node: the run over it, its label and its children
 --   Trees     some trees in a row
+--   forest    the trees of a list
 --   run_of, label_of, children_of   the parts of a tree
 --   under     a tree with one more `@` over it
 --   skeleton  the tree without its `@`s
@@ -18,6 +19,10 @@ mutual
   pub data Trees : Type 0 where
     none : Trees
     more : Tree → Trees → Trees
+
+abbrev pub forest : List Tree → Trees
+forest [] = none
+forest (t ∷ ts) = more t (forest ts)
 
 abbrev pub run_of : Tree → Run
 run_of (tree run label children) = run

@@ -1,17 +1,23 @@
 //! Formulas as trees of nodes, and what a formula is apart from memory: its skeleton, places and runs of `@`.
 #![tactic(auto)]
 
+pub use array::{ArrayNode, Rows};
+pub use call_core::{Function, Plain, Steps};
+pub use error::Error;
 pub use laws::runs_fix_the_tree;
 pub use memory::Memory;
-pub use node::Node;
-pub use operator::{OpSum, OpUnary};
+pub use names::{DefinedNameS, Texts};
+pub use node::{Node, Nodes};
+pub use operator::{OpCompare, OpProduct, OpSum, OpUnary};
+pub use position::{CellReferenceIndex, Range};
 pub use text::Text;
 
-mod equality;
+mod array;
+mod error;
 mod laws;
 mod memory;
+mod names;
 mod node;
 mod operator;
-#[cfg(test)]
-mod tests;
+mod position;
 mod text;

@@ -1,17 +1,26 @@
-ghost use Rattle.std.specs.Prelude.{◌≡◌, IfOk};
-ghost use Rattle.tree_core.specs.Variant.{IsReference, IsRange};
-
-use crate::memory::Memory;
-use crate::operator::{OpSum, OpUnary};
+use crate::array::Rows;
+use crate::error::Error;
+use crate::names::{DefinedNameS, Texts};
+use crate::operator::{OpCompare, OpProduct, OpSum, OpUnary};
 use crate::text::Text;
-use own_items::Boxed as Box;
-use std::alloc::Global;
+use call_core::Function;
+use own_items::{Boxed as Box, Items};
+
+/// Some formulas in a row, such as the arguments of a call.
+pub type Nodes = Items<Node>;
 
 /// A formula as a tree.
+///
+/// A row or column of a reference is absolute where its flag holds, else it is the difference to that of the formula's cell.
 #[derive(Debug, Drop)]
 pub enum Node {
+    BooleanKind(bool),
     /// A number, in millionths.
     NumberKind(i64),
+    StringKind(Text),
+    ErrorKind(Error),
+    /// An argument that was left out, as the second one of `IF(A1,,2)`.
+    EmptyArgKind,
     ReferenceKind {
         sheet_name: Option<Text>,
         sheet_index: u32,
@@ -32,8 +41,69 @@ pub enum Node {
         row2: i32,
         column2: i32,
     },
+    /// A reference to a sheet that isn't there.
+    WrongReferenceKind {
+        sheet_name: Option<Text>,
+        absolute_row: bool,
+        absolute_column: bool,
+        row: i32,
+        column: i32,
+    },
+    /// A range on a sheet that isn't there.
+    WrongRangeKind {
+        sheet_name: Option<Text>,
+        absolute_row1: bool,
+        absolute_column1: bool,
+        row1: i32,
+        column1: i32,
+        absolute_row2: bool,
+        absolute_column2: bool,
+        row2: i32,
+        column2: i32,
+    },
+    /// The range operator, as in `INDEX(A1:A9,1):B3`.
+    OpRangeKind {
+        left: Box<Node>,
+        right: Box<Node>,
+    },
+    OpConcatenateKind {
+        left: Box<Node>,
+        right: Box<Node>,
+    },
     OpSumKind {
         kind: OpSum,
+        left: Box<Node>,
+        right: Box<Node>,
+    },
+    OpProductKind {
+        kind: OpProduct,
+        left: Box<Node>,
+        right: Box<Node>,
+    },
+    OpPowerKind {
+        left: Box<Node>,
+        right: Box<Node>,
+    },
+    FunctionKind {
+        kind: Function,
+        args: Nodes,
+    },
+    /// A call of a function that a name stands for.
+    NamedFunctionKind {
+        name: Text,
+        id: Option<u32>,
+        args: Nodes,
+    },
+    /// An array literal.
+    ArrayKind(Rows),
+    DefinedNameKind(DefinedNameS),
+    TableNameKind(Text),
+    NamedVariableKind {
+        name: Text,
+        id: Option<u32>,
+    },
+    CompareKind {
+        kind: OpCompare,
         left: Box<Node>,
         right: Box<Node>,
     },
@@ -41,107 +111,27 @@ pub enum Node {
         kind: OpUnary,
         right: Box<Node>,
     },
+    /// A text that is no formula.
+    ParseErrorKind {
+        formula: Text,
+        message: Text,
+        position: u32,
+    },
     /// The operator `@`. It is automatic where import put it, and not where a person did.
     ImplicitIntersection {
         automatic: bool,
         child: Box<Node>,
     },
-}
-
-impl Node {
-    /// An equal formula.
-    pub fn try_clone(&self, alloc: Global) -> Result<Node, Memory>
-        ensures { IfOk result (λ copy. copy ≡ self.now) }
-    {
-        match self {
-            Node::NumberKind(number) => Ok(Node::NumberKind(*number)),
-            Node::ReferenceKind { .. } => self.clone_reference(alloc),
-            Node::RangeKind { .. } => self.clone_range(alloc),
-            Node::OpSumKind { kind, left, right } => {
-                let left = Box::new(alloc, left.get().try_clone(alloc)?)?;
-                let right = Box::new(alloc, right.get().try_clone(alloc)?)?;
-                Ok(Node::OpSumKind {
-                    kind: *kind,
-                    left,
-                    right,
-                })
-            }
-            Node::UnaryKind { kind, right } => {
-                let right = Box::new(alloc, right.get().try_clone(alloc)?)?;
-                Ok(Node::UnaryKind { kind: *kind, right })
-            }
-            Node::ImplicitIntersection { automatic, child } => {
-                let child = Box::new(alloc, child.get().try_clone(alloc)?)?;
-                Ok(Node::ImplicitIntersection {
-                    automatic: *automatic,
-                    child,
-                })
-            }
-        }
-    }
-
-    fn clone_reference(&self, alloc: Global) -> Result<Node, Memory>
-        requires { IsReference self.now }
-        ensures { IfOk result (λ copy. copy ≡ self.now) }
-    {
-        match self {
-            Node::ReferenceKind {
-                sheet_name,
-                sheet_index,
-                absolute_row,
-                absolute_column,
-                row,
-                column,
-            } => Ok(Node::ReferenceKind {
-                sheet_name: clone_name(alloc, sheet_name)?,
-                sheet_index: *sheet_index,
-                absolute_row: *absolute_row,
-                absolute_column: *absolute_column,
-                row: *row,
-                column: *column,
-            }),
-            _ => unreachable!(),
-        }
-    }
-
-    fn clone_range(&self, alloc: Global) -> Result<Node, Memory>
-        requires { IsRange self.now }
-        ensures { IfOk result (λ copy. copy ≡ self.now) }
-    {
-        match self {
-            Node::RangeKind {
-                sheet_name,
-                sheet_index,
-                absolute_row1,
-                absolute_column1,
-                row1,
-                column1,
-                absolute_row2,
-                absolute_column2,
-                row2,
-                column2,
-            } => Ok(Node::RangeKind {
-                sheet_name: clone_name(alloc, sheet_name)?,
-                sheet_index: *sheet_index,
-                absolute_row1: *absolute_row1,
-                absolute_column1: *absolute_column1,
-                row1: *row1,
-                column1: *column1,
-                absolute_row2: *absolute_row2,
-                absolute_column2: *absolute_column2,
-                row2: *row2,
-                column2: *column2,
-            }),
-            _ => unreachable!(),
-        }
-    }
-}
-
-fn clone_name(alloc: Global, name: &Option<Text>) -> Result<Option<Text>, Memory>
-    ensures { IfOk result (λ copy. copy ≡ name.now) }
-{
-    match name {
-        Some(text) => Ok(Some(text.try_clone(alloc)?)),
-        None => Ok(None),
-    }
+    /// The operator `#`.
+    SpillRangeOperator {
+        child: Box<Node>,
+    },
+    LambdaDefKind {
+        parameters: Texts,
+        body: Box<Node>,
+    },
+    LambdaCallKind {
+        lambda: Box<Node>,
+        args: Nodes,
+    },
 }

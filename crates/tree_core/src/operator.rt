@@ -5,9 +5,27 @@ pub enum OpSum {
     Minus,
 }
 
+/// The operators of one product.
+#[derive(Clone, Copy, Debug, PartialEq, Eq)]
+pub enum OpProduct {
+    Times,
+    Divide,
+}
+
 /// The operators before or behind one operand.
 #[derive(Clone, Copy, Debug, PartialEq, Eq)]
 pub enum OpUnary {
     Minus,
     Percentage,
+}
+
+/// The comparisons.
+#[derive(Clone, Copy, Debug, PartialEq, Eq)]
+pub enum OpCompare {
+    LessThan,
+    GreaterThan,
+    Equal,
+    LessOrEqualThan,
+    GreaterOrEqualThan,
+    NonEqual,
 }
