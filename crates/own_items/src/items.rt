@@ -1,4 +1,4 @@
-ghost use Rattle.std.specs.Prelude.{◌≡◌, [], ◌∷◌, ◌++◌, ◌≤◌, length, slice_get, ◌↔◌, IsTrue, IsNone, OnOk, OnErr, IfErr};
+ghost use Rattle.std.specs.Prelude.{◌≡◌, [], ◌∷◌, ◌++◌, ◌≤◌, length, slice_get, slice_set, option_map, ◌↔◌, IsTrue, IsNone, OnOk, OnErr, IfErr};
 ghost use Rattle.std.specs.Option.{option_copied};
 
 use std::alloc::Global;
@@ -22,6 +22,9 @@ impl<T> Model for Items<T> {
 }
 
 impl<T> Items<T> {
+    ghost use Rattle.std.specs.Borrow.{sem, LendsIf};
+    ghost use Rattle.own_items.specs.contracts.items.Items.{the_row};
+
     /// No values. It takes no memory.
     pub fn new(alloc: Global) -> Items<T>
         ensures { result ≡ [] }
@@ -62,6 +65,15 @@ impl<T> Items<T> {
         ensures past_the_end { IsNone result ↔ (length self.now ≤ index) }
     {
         self.held.get(index)
+    }
+
+    /// The value with this index, borrowed for writing: what is left behind the borrow then stands in its place. None past the end.
+    pub fn get_mut(&mut self, index: usize) -> Option<&mut T>
+        ensures* writes_back { sem 𝓛 (LendsIf (the_row T.row) T.row self.entry result (slice_set self.old index) self.old) }
+        ensures element { option_map (λ item. item.now) result ≡ slice_get self.old index }
+        ensures past_the_end { IsNone result ↔ (length self.old ≤ index) }
+    {
+        self.held.get_mut(index)
     }
 
     /// The values, borrowed.
