@@ -18,11 +18,22 @@ impl<T> Model for Boxed<T> {
 }
 
 impl<T> Boxed<T> {
+    ghost use Rattle.std.specs.Borrow.{sem, Lends};
+    ghost use Rattle.own_items.specs.contracts.boxed.Boxed.{the_row};
+
     /// The value, borrowed.
     pub fn get(&self) -> &T
         ensures { result.now ≡ self.now }
     {
         &self.held
+    }
+
+    /// The value, borrowed for writing: what is left behind the borrow is then the value.
+    pub fn get_mut(&mut self) -> &mut T
+        ensures* writes_back { sem 𝓛 (Lends (the_row T.row) T.row self.entry result (λ last. last)) }
+        ensures value { result.now ≡ self.old }
+    {
+        &mut self.held
     }
 
     /// The value, out of its box.

@@ -1,8 +1,11 @@
 //! Owners that contracts see as what they hold, so that a tree of them is plain data.
 //!
 //! - `boxed`: `Boxed`, one value on the heap.
+//! - `items`: `Items`, some values in a row on the heap.
 #![tactic(auto)]
 
 mod boxed;
+mod items;
 
 pub use boxed::Boxed;
+pub use items::Items;
