@@ -1,0 +1,12 @@
+//! Static analysis: the shape of a formula, without evaluation.
+//!
+//! - `leaf`: nodes that are taken as a whole.
+//! - `own`: what arguments show of themselves, and calls of the own kinds.
+//! - `analysis`: whole formulas, by a table of kinds.
+#![tactic(auto)]
+
+pub use leaf::{range_shape, whole_shape};
+pub use own::own_shape;
+
+mod leaf;
+mod own;
