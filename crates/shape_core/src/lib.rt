@@ -5,8 +5,10 @@
 //! - `analysis`: whole formulas, by a table of kinds.
 #![tactic(auto)]
 
+pub use analysis::{call_shape, run_static_analysis_on_node};
 pub use leaf::{range_shape, whole_shape};
 pub use own::own_shape;
 
+mod analysis;
 mod leaf;
 mod own;

@@ -4,7 +4,8 @@
 --   IsWhole      a bare node that is taken as a whole: it has no children, or children that neither import nor analysis asks
 --   IsOf         a node is of a class, with these parts
 --   Falls        each part is a smaller formula than the node
-use Rattle.std.specs.Prelude.{◌≡◌, ◌<◌, List, [], map, All, ⊤}
+use Rattle.std.specs.Prelude.{◌≡◌, ◌<◌, [], map, ⊤}
+use denote.Param.Weighed.{most}
 use Rattle.tree_core.specs.Label.{Binary, concatenate, power, sum, product, compare, Label, leaf, passing, unary, spill, closed, call}
 use Rattle.tree_core.specs.Tree.{Tree, tree, Trees, none, forest, under}
 use Rattle.tree_core.specs.Formula.{tree_of, one, between}
@@ -51,5 +52,5 @@ Falls Whole node = ⊤
 Falls (Unary kind right) node = size-Node right.now < size-Node node
 Falls (BinaryClass operator left right) node = (size-Node left.now < size-Node node) × (size-Node right.now < size-Node node)
 Falls (Spill child) node = size-Node child.now < size-Node node
-Falls (Call kind args) node = All (λ arg. size-Node arg < size-Node node) args.now
+Falls (Call kind args) node = most size-Node args.now < size-Node node
 Falls (Intersection automatic child) node = size-Node child.now < size-Node node

@@ -1,0 +1,75 @@
+ghost use Rattle.std.specs.Prelude.{◌≡◌, IfOk, map};
+ghost use Rattle.tree_core.specs.Formula.{tree_of};
+ghost use Rattle.tree_core.specs.Tree.{forest};
+ghost use Rattle.shape_core.specs.Shape.{call_shape, shape, shapes, shown_all};
+
+use crate::leaf::whole_shape;
+use crate::own::own_shape;
+use kind_table::{Asks, StaticResult};
+use std::alloc::Global;
+use tree_class::Class;
+use tree_core::{Function, Memory, Node, Nodes, Steps};
+
+/// The shape of a formula by a table of kinds, which is asked once for each call of one of its kinds that isn't under an `@`,
+/// a named call or a lambda.
+#[cycle(analysis)]
+#[tactic(auto, using(crate::proofs::Shapes::shaped))]
+pub fn run_static_analysis_on_node<K: Asks<L>, L>(
+    alloc: Global,
+    node: &Node,
+    kinds: &K,
+    steps: &mut Steps<L>,
+) -> Result<StaticResult, Memory>
+    ensures { IfOk result (λ found. found ≡ shape (K.table kinds.now) (tree_of node.now)) }
+{
+    match Class::of(node) {
+        Class::Whole => Ok(whole_shape(node)),
+        Class::Unary { right, .. } => {
+            let found = run_static_analysis_on_node(alloc, right, kinds, steps)?;
+            Ok(found)
+        }
+        Class::Binary { left, right, .. } => {
+            let left = run_static_analysis_on_node(alloc, left, kinds, steps)?;
+            let right = run_static_analysis_on_node(alloc, right, kinds, steps)?;
+            Ok(left.combined(right))
+        }
+        Class::Spill { .. } => Ok(StaticResult::Unknown),
+        Class::Call { kind, args } => {
+            let found = shapes_of(alloc, args, kinds, steps)?;
+            Ok(call_shape(kind, args, found.as_slice(), kinds, steps))
+        }
+        Class::Intersection { .. } => Ok(StaticResult::Scalar),
+    }
+}
+
+#[cycle(analysis)]
+fn shapes_of<K: Asks<L>, L>(
+    alloc: Global,
+    args: &Nodes,
+    kinds: &K,
+    steps: &mut Steps<L>,
+) -> Result<Vec<StaticResult>, Memory>
+    ensures { IfOk result (λ found. found.items ≡ map (λ arg. shape (K.table kinds.now) (tree_of arg)) args.now) }
+{
+    let mut found = Vec::new(alloc);
+    for arg in args.as_slice() {
+        found.push(run_static_analysis_on_node(alloc, arg, kinds, steps)?)?;
+    }
+    Ok(found)
+}
+
+/// The shape of a call over its arguments and the shape of each, in their order.
+pub fn call_shape<K: Asks<L>, L>(
+    kind: Function,
+    args: &Nodes,
+    shapes: &[StaticResult],
+    kinds: &K,
+    steps: &mut Steps<L>,
+) -> StaticResult
+    ensures { result ≡ call_shape (K.table kinds.now) kind (shown_all (forest (map tree_of args.now))) shapes.now }
+{
+    match kind {
+        Function::Other(id) => kinds.shape(id, shapes, steps),
+        _ => own_shape(kind, args, shapes),
+    }
+}
