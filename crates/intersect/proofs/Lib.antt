@@ -1,3 +1,4 @@
+pub mod Below
+pub mod Classes
 pub mod Exists
-pub mod Nodes
 pub mod Reach

@@ -1,21 +1,21 @@
--- The rule that a spreadsheet's import goes by.
---   import_rule  a range is range-like, and each child has the context of its parent
+-- The rule that a spreadsheet's import goes by, with a table of kinds.
+--   is_closed    a range operator, a named call, a lambda and a call of one: import goes into no child of them
+--   import_rule  these nodes are closed; a node is range-like by its children as imported; a child's context is by the given shapes
 use Rattle.std.specs.Prelude.{Bool, true, false}
-use Rattle.tree_core.specs.Label.{Label, Leaf, leaf, number, reference, range, passing}
+use Rattle.kind_table.specs.Table.{Table}
+use Rattle.tree_core.specs.Label.{Label, leaf, passing, spill, closed, call}
+use Rattle.shape_core.specs.Shape.{shown_all}
+use Rattle.intersect.specs.After.{context, children_after, is_range_like}
 use Rattle.intersect.specs.Rule.{Rule}
 
-abbrev pub is_range : Leaf → Bool
-is_range (number n) = false
-is_range (reference sheet corner) = false
-is_range (range sheet left right) = true
+abbrev pub is_closed : Label → Bool
+is_closed (closed c) = true
+is_closed label = false
 
-abbrev pub is_range_like : Label → Bool
-is_range_like (leaf l) = is_range l
-is_range_like (passing p) = false
-
-abbrev pub import_rule : Rule
-import_rule = record {
-  closed = λ label. false;
-  range_like = λ label children. is_range_like label;
-  context = λ add label children i. add;
+abbrev pub import_rule : Table → Rule
+import_rule table = record {
+  closed = is_closed;
+  -- what is wanted of the node does not matter: that of a call's arguments is by the call alone, and no other node asks its children
+  range_like = λ label ts. is_range_like table label (shown_all ts) (children_after table false label ts);
+  context = context table;
 }

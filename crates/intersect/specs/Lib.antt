@@ -2,4 +2,6 @@ pub mod Rule
 pub mod Reached
 pub mod Imported
 pub mod ImportOf
+pub mod RangeText
+pub mod After
 pub mod ImportRule
