@@ -13,6 +13,7 @@ pub use position::{CellReferenceIndex, Range};
 pub use text::Text;
 
 mod array;
+mod clone;
 mod error;
 mod laws;
 mod memory;
