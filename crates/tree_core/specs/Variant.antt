@@ -1,7 +1,9 @@
 -- Which variants a node may be, where a function speaks of some alone.
 --   IsReference, IsRange, IsWrongReference, IsWrongRange   the node is one of these
 --   IsLeaf      it has no children, and is none of these
+--   IsParseError it is one
 --   IsOperator  it is an operator between two sides
+--   IsOperatorOfKind   it is one of several of its sort between two sides
 --   IsCall      it has a list of arguments
 --   IsWrapper   it has one child, alone
 use Rattle.tree_core.specs.declared.node.Node.{Node, out-Node}
@@ -51,17 +53,30 @@ IsLeaf node = leaf_layer (out-Node node)
     leaf_layer (Node-F.ParseErrorKind formula message position) = Unit {0}
     leaf_layer _ = ⊥
 
+abbrev pub IsParseError : Node → Type 0
+IsParseError node = parse_error_layer (out-Node node)
+  where
+    parse_error_layer : Node-F Node → Type 0
+    parse_error_layer (Node-F.ParseErrorKind formula message position) = Unit {0}
+    parse_error_layer _ = ⊥
+
 abbrev pub IsOperator : Node → Type 0
 IsOperator node = operator_layer (out-Node node)
   where
     operator_layer : Node-F Node → Type 0
     operator_layer (Node-F.OpRangeKind left right) = Unit {0}
     operator_layer (Node-F.OpConcatenateKind left right) = Unit {0}
-    operator_layer (Node-F.OpSumKind kind left right) = Unit {0}
-    operator_layer (Node-F.OpProductKind kind left right) = Unit {0}
     operator_layer (Node-F.OpPowerKind left right) = Unit {0}
-    operator_layer (Node-F.CompareKind kind left right) = Unit {0}
     operator_layer _ = ⊥
+
+abbrev pub IsOperatorOfKind : Node → Type 0
+IsOperatorOfKind node = kind_layer (out-Node node)
+  where
+    kind_layer : Node-F Node → Type 0
+    kind_layer (Node-F.OpSumKind kind left right) = Unit {0}
+    kind_layer (Node-F.OpProductKind kind left right) = Unit {0}
+    kind_layer (Node-F.CompareKind kind left right) = Unit {0}
+    kind_layer _ = ⊥
 
 abbrev pub IsCall : Node → Type 0
 IsCall node = call_layer (out-Node node)

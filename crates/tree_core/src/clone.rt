@@ -1,11 +1,10 @@
 ghost use Rattle.std.specs.Prelude.{◌≡◌, [], ◌∷◌, ◌++◌, IfOk, OnOk};
-ghost use Rattle.tree_core.specs.Variant.{IsReference, IsRange, IsWrongReference, IsWrongRange, IsLeaf, IsOperator, IsCall, IsWrapper};
+ghost use Rattle.tree_core.specs.Variant.{IsReference, IsRange, IsWrongReference, IsWrongRange, IsLeaf, IsOperator, IsOperatorOfKind, IsCall, IsWrapper};
 
 use crate::memory::Memory;
 use crate::node::{Node, Nodes};
 use crate::text::Text;
-use own_items::Boxed as Box;
-use own_items::Items;
+use own_items::{Boxed as Box, Items};
 use std::alloc::Global;
 
 impl Node {
@@ -19,12 +18,10 @@ impl Node {
             Node::RangeKind { .. } => self.clone_range(alloc),
             Node::WrongReferenceKind { .. } => self.clone_wrong_reference(alloc),
             Node::WrongRangeKind { .. } => self.clone_wrong_range(alloc),
-            Node::OpRangeKind { .. }
-            | Node::OpConcatenateKind { .. }
-            | Node::OpSumKind { .. }
-            | Node::OpProductKind { .. }
-            | Node::OpPowerKind { .. }
-            | Node::CompareKind { .. } => self.clone_operator(alloc),
+            Node::OpRangeKind { .. } | Node::OpConcatenateKind { .. } | Node::OpPowerKind { .. } =>
+                self.clone_operator(alloc),
+            Node::OpSumKind { .. } | Node::OpProductKind { .. } | Node::CompareKind { .. } =>
+                self.clone_operator_of_kind(alloc),
             Node::FunctionKind { .. }
             | Node::NamedFunctionKind { .. }
             | Node::LambdaCallKind { .. } => self.clone_call(alloc),
@@ -188,6 +185,20 @@ impl Node {
                 left: clone_boxed(alloc, left)?,
                 right: clone_boxed(alloc, right)?,
             }),
+            Node::OpPowerKind { left, right } => Ok(Node::OpPowerKind {
+                left: clone_boxed(alloc, left)?,
+                right: clone_boxed(alloc, right)?,
+            }),
+            _ => unreachable!(),
+        }
+    }
+
+    #[cycle(clones)]
+    fn clone_operator_of_kind(&self, alloc: Global) -> Result<Node, Memory>
+        requires { IsOperatorOfKind self.now }
+        ensures { IfOk result (λ copy. copy ≡ self.now) }
+    {
+        match self {
             Node::OpSumKind { kind, left, right } => Ok(Node::OpSumKind {
                 kind: *kind,
                 left: clone_boxed(alloc, left)?,
@@ -195,10 +206,6 @@ impl Node {
             }),
             Node::OpProductKind { kind, left, right } => Ok(Node::OpProductKind {
                 kind: *kind,
-                left: clone_boxed(alloc, left)?,
-                right: clone_boxed(alloc, right)?,
-            }),
-            Node::OpPowerKind { left, right } => Ok(Node::OpPowerKind {
                 left: clone_boxed(alloc, left)?,
                 right: clone_boxed(alloc, right)?,
             }),

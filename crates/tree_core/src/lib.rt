@@ -14,6 +14,7 @@ pub use text::Text;
 
 mod array;
 mod clone;
+mod equality;
 mod error;
 mod laws;
 mod memory;
@@ -21,4 +22,5 @@ mod names;
 mod node;
 mod operator;
 mod position;
+mod same_reference;
 mod text;
