@@ -41,13 +41,13 @@ impl Rows {
         }
     }
 
-    /// Puts a row below the others. For want of memory it is handed back, and the list stays.
-    pub fn push(&mut self, elements: Vec<ArrayNode>) -> Result<(), Vec<ArrayNode>>
-        ensures done { OnOk result (self.new ≡ self.old ++ elements.items ∷ []) }
-        ensures handed_back { IfErr result (λ back. back ≡ elements) }
+    /// Puts a row behind the others. For want of memory it is handed back, and the list stays.
+    pub fn push(&mut self, row: Vec<ArrayNode>) -> Result<(), Vec<ArrayNode>>
+        ensures done { OnOk result (self.new ≡ self.old ++ row.items ∷ []) }
+        ensures handed_back { IfErr result (λ back. back ≡ row) }
         ensures kept { OnErr result (self.new ≡ self.old) }
     {
-        match self.rows.push(elements) {
+        match self.rows.push(row) {
             Ok(()) => Ok(()),
             Err(failed) => Err(failed.value),
         }
@@ -60,11 +60,11 @@ impl Rows {
         self.rows.len()
     }
 
-    /// A row by its number, from 0; `None` exactly past the last one.
-    pub fn get(&self, index: usize) -> Option<&[ArrayNode]>
-        ensures { option_map (λ elements. elements.now) result ≡ slice_get self.now index }
+    /// The elements of a row by its number, from 0; `None` exactly past the last row.
+    pub fn get(&self, row: usize) -> Option<&[ArrayNode]>
+        ensures { option_map (λ elements. elements.now) result ≡ slice_get self.now row }
     {
-        match self.rows.get(index) {
+        match self.rows.get(row) {
             Some(elements) => Some(elements.as_slice()),
             None => None,
         }

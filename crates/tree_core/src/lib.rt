@@ -14,6 +14,7 @@ pub use text::Text;
 
 mod array;
 mod clone;
+mod count;
 mod equality;
 mod error;
 mod laws;
