@@ -3,3 +3,5 @@ pub mod Tree
 pub mod Place
 pub mod Formula
 pub mod ErrorName
+pub mod Variant
+pub mod Count

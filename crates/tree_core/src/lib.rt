@@ -13,6 +13,9 @@ pub use position::{CellReferenceIndex, Range};
 pub use text::Text;
 
 mod array;
+mod clone;
+mod count;
+mod equality;
 mod error;
 mod laws;
 mod memory;
@@ -20,4 +23,5 @@ mod names;
 mod node;
 mod operator;
 mod position;
+mod same_reference;
 mod text;

@@ -1,5 +1,6 @@
-ghost use Rattle.std.specs.Prelude.{◌≡◌, ◌++◌, [], ◌∷◌, OnOk, OnErr, IfErr, length, option_map, slice_get};
+ghost use Rattle.std.specs.Prelude.{◌≡◌, ◌↔◌, ◌++◌, [], ◌∷◌, IsTrue, IfOk, OnOk, OnErr, IfErr, length, option_map, slice_get};
 
+use crate::memory::Memory;
 use crate::text::Text;
 use std::alloc::Global;
 use std::marker::Model;
@@ -53,8 +54,102 @@ impl Texts {
     {
         self.texts.get(index)
     }
+
+    /// An equal list.
+    pub fn try_clone(&self, alloc: Global) -> Result<Texts, Memory>
+        ensures { IfOk result (λ copy. copy ≡ self.now) }
+    {
+        let texts = clone_texts(alloc, self.texts.as_slice())?;
+        Ok(Texts { texts })
+    }
+}
+
+fn clone_texts(alloc: Global, texts: &[Text]) -> Result<Vec<Text>, Memory>
+    ensures { IfOk result (λ copy. copy.items ≡ texts.now) }
+{
+    let mut copy = Vec::new(alloc);
+    for (index, text) in texts.iter().enumerate() {
+        let text = text.try_clone(alloc)?;
+        copy.push(text)?;
+    }
+    Ok(copy)
+}
+
+impl PartialEq for Texts {
+    ghost use Rattle.std.specs.Coded.{coded_list, coded_ℕ};
+    ghost use Rattle.own_items.specs.Sameness.{same, same-laws};
+
+    ghost eq = { same (coded_list (coded_list coded_ℕ)) };
+
+    ghost laws = { same-laws (coded_list (coded_list coded_ℕ)) };
+
+    /// Whether the two lists have the same texts.
+    fn eq(&self, other: &Texts) -> bool
+        ensures same_value { IsTrue result ↔ (self.now ≡ other.now) }
+        ensures same_code { result ≡ same (coded_list (coded_list coded_ℕ)) self.now other.now }
+    {
+        self.is(other)
+    }
+}
+
+impl Texts {
+    pub(crate) fn is(&self, other: &Texts) -> bool
+        ensures { IsTrue result ↔ (self.now ≡ other.now) }
+    {
+        are_texts(self.texts.as_slice(), other.texts.as_slice())
+    }
+}
+
+fn are_texts(texts: &[Text], others: &[Text]) -> bool
+    ensures { IsTrue result ↔ (texts.now ≡ others.now) }
+{
+    if texts.len() != others.len() {
+        return false;
+    }
+    for (index, text) in texts.iter().enumerate() {
+        if !text.is(&others[index]) {
+            return false;
+        }
+    }
+    true
 }
 
 /// A name that was defined: the name, the sheet that it is of, where it is of one alone, and the text of its formula.
 #[derive(Debug, Drop)]
 pub struct DefinedNameS(pub Text, pub Option<u32>, pub Text);
+
+impl DefinedNameS {
+    /// An equal name.
+    pub fn try_clone(&self, alloc: Global) -> Result<DefinedNameS, Memory>
+        ensures { IfOk result (λ copy. copy ≡ self.now) }
+    {
+        let name = self.0.try_clone(alloc)?;
+        let formula = self.2.try_clone(alloc)?;
+        Ok(DefinedNameS(name, self.1, formula))
+    }
+}
+
+impl PartialEq for DefinedNameS {
+    ghost use Rattle.own_items.specs.Sameness.{same, same-laws};
+    ghost use Rattle.tree_core.specs.contracts.names.DefinedNameS.{the_row};
+
+    ghost eq = { same the_row.coded };
+
+    ghost laws = { same-laws the_row.coded };
+
+    /// Whether the two names are one, their sheets and formulas included.
+    fn eq(&self, other: &DefinedNameS) -> bool
+        ensures same_value { IsTrue result ↔ (self.now ≡ other.now) }
+        ensures same_code { result ≡ same the_row.coded self.now other.now }
+    {
+        self.is(other)
+    }
+}
+
+impl DefinedNameS {
+    pub(crate) fn is(&self, other: &DefinedNameS) -> bool
+        ensures { IsTrue result ↔ (self.now ≡ other.now) }
+    {
+        self.0.is(&other.0) && self.1 == other.1 && self.2.is(&other.2)
+    }
+}

@@ -1,0 +1,39 @@
+-- How many of something there are in a formula.
+--   size_of   its nodes, the `@`s among them
+--   calls_of  its calls of functions, `calls_here` of them at one node
+--   ats_of    its `@`s: the lengths of its runs
+--   size_of_all, calls_of_all, ats_of_all   so in some formulas together
+use Rattle.std.specs.Prelude.{ℕ, ◌+◌, length}
+use Rattle.tree_core.specs.Label.{Label, leaf, passing, spill, closed, call}
+use Rattle.tree_core.specs.Tree.{Tree, tree, Trees, none, more}
+
+abbrev mutual
+  pub size_of : Tree → ℕ
+  size_of (tree run label children) = length run + 1 + size_of_all children
+
+  pub size_of_all : Trees → ℕ
+  size_of_all none = 0
+  size_of_all (more t ts) = size_of t + size_of_all ts
+
+abbrev pub calls_here : Label → ℕ
+calls_here (leaf l) = 0
+calls_here (passing p) = 0
+calls_here spill = 0
+calls_here (closed c) = 0
+calls_here (call kind) = 1
+
+abbrev mutual
+  pub calls_of : Tree → ℕ
+  calls_of (tree run label children) = calls_here label + calls_of_all children
+
+  pub calls_of_all : Trees → ℕ
+  calls_of_all none = 0
+  calls_of_all (more t ts) = calls_of t + calls_of_all ts
+
+abbrev mutual
+  pub ats_of : Tree → ℕ
+  ats_of (tree run label children) = length run + ats_of_all children
+
+  pub ats_of_all : Trees → ℕ
+  ats_of_all none = 0
+  ats_of_all (more t ts) = ats_of t + ats_of_all ts
