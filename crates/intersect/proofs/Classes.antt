@@ -163,4 +163,20 @@ module _ (table : Table) where
       none_opens true = refl
       none_opens false = refl
 
-pub ruleset classes = (run_of-whole, import-whole, after-whole, import-unary, import-between, import-spill, after-unary, after-between, after-spill, after-call, after-under, import-replaced, import-kept)
+-- the import of a formula under a further `@`
+pub import-under : (table : Table) (add automatic : Bool) (t : Tree) → import_of (import_rule table) add (under automatic t)
+    ≡ (if is_bare (run_of (import_of (import_rule table) add t)) then under automatic t else import_of (import_rule table) add t)
+import-under table add automatic t =
+    elim (is_bare (run_of (import_of (import_rule table) add t))) as (λ b. is_bare (run_of (import_of (import_rule table) add t)) ≡ b
+    → import_of (import_rule table) add (under automatic t) ≡ (if b then under automatic t else import_of (import_rule table) add t)) [
+      | true ↦ λ e. import-kept table add automatic t e
+      | false ↦ λ e. import-replaced table add automatic t e
+    ] refl
+
+pub bare-under : (automatic : Bool) (t : Tree) → is_bare (run_of (under automatic t)) ≡ false
+bare-under automatic (tree run label ts) = refl
+
+pub bare-whole : (t : Tree) → IsWhole t → is_bare (run_of t) ≡ true
+bare-whole t h = ap is_bare (run_of-whole t h)
+
+pub ruleset classes = (bare-under, bare-whole, import-under, import-whole, after-whole, import-unary, import-between, import-spill, after-unary, after-between, after-spill, after-call, after-under)

@@ -1,4 +1,5 @@
 pub mod Below
 pub mod Classes
+pub mod Endings
 pub mod Exists
 pub mod Reach

@@ -2,6 +2,9 @@
 #![tactic(auto)]
 
 pub use laws::import_is_a_function;
+pub use range_text::is_range_reference;
 
+mod context;
 mod laws;
-mod import;
+mod range_text;
+mod visited;

@@ -42,8 +42,9 @@ pub fn run_static_analysis_on_node<K: Asks<L>, L>(
     }
 }
 
+/// The shape of each of some formulas, in their order.
 #[cycle(analysis)]
-fn shapes_of<K: Asks<L>, L>(
+pub fn shapes_of<K: Asks<L>, L>(
     alloc: Global,
     args: &Nodes,
     kinds: &K,

@@ -5,7 +5,7 @@
 //! - `analysis`: whole formulas, by a table of kinds.
 #![tactic(auto)]
 
-pub use analysis::{call_shape, run_static_analysis_on_node};
+pub use analysis::{call_shape, run_static_analysis_on_node, shapes_of};
 pub use leaf::{range_shape, whole_shape};
 pub use own::own_shape;
 
