@@ -32,9 +32,9 @@ one_byte : (ending : Ending) (byte : ℕ) (bytes : List ℕ) (later : Option (Li
 one_byte ending byte bytes (Some rest) = refl
 one_byte ending byte bytes None = elim (eqb byte 58) as (λ b. rest_is_end (if b then Column else within ending byte) bytes
     ≡ option_map_or is_end (if b then Some bytes else None) (rest_is_end ending (byte ∷ bytes))) [
-  | true ↦ refl
-  | false ↦ no_colon ending byte bytes
-]
+      | true ↦ refl
+      | false ↦ no_colon ending byte bytes
+    ]
 
 read : (bytes : List ℕ) (ending : Ending) → ends_reference (fold goes_on ending bytes) ≡ option_map_or is_end (after_last_colon bytes) (rest_is_end ending bytes)
 read [] Before = refl

@@ -1,3 +1,4 @@
+pub mod Arguments
 pub mod Below
 pub mod Classes
 pub mod Endings

@@ -2,6 +2,7 @@ pub mod Rule
 pub mod Reached
 pub mod Imported
 pub mod ImportOf
+pub mod Arguments
 pub mod RangeText
 pub mod Ending
 pub mod After

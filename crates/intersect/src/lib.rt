@@ -1,10 +1,17 @@
 //! The implicit intersection operator `@`: import, which puts it where a spreadsheet of values wants one value.
+//!
+//! - `import`: the imported formula, as a new tree or in place.
+//! - `range_text`: texts that end as a reference to a range does.
+//! - `laws`: what holds of import whatever the formula.
 #![tactic(auto)]
 
+pub use import::{add_implicit_intersection, imported};
 pub use laws::import_is_a_function;
 pub use range_text::is_range_reference;
 
 mod context;
+mod import;
 mod laws;
 mod range_text;
+mod visit;
 mod visited;

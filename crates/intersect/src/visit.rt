@@ -1,13 +1,16 @@
-ghost use Rattle.std.specs.Prelude.{◌≡◌, IfOk, map};
+ghost use Rattle.std.specs.Prelude.{◌≡◌, IfOk, [], map};
 ghost use Rattle.tree_core.specs.Formula.{tree_of};
 ghost use Rattle.tree_core.specs.Label.{call};
 ghost use Rattle.tree_core.specs.Tree.{tree, forest};
-ghost use Rattle.intersect.specs.After.{after};
+ghost use Rattle.intersect.specs.After.{after, wants_one};
+ghost use Rattle.intersect.specs.Arguments.{each};
 ghost use Rattle.intersect.specs.ImportOf.{import_of};
 ghost use Rattle.intersect.specs.ImportRule.{import_rule};
 
 use crate::context::wants_one;
-use crate::visited::{Visited, VisitedAll, between, called, kept_or_replaced, spilled, unary, whole};
+use crate::visited::{
+    Visited, VisitedAll, between, called, kept_or_replaced, put, spilled, unary, whole,
+};
 use kind_table::{Asks, StaticResult};
 use shape_core::{call_shape, shapes_of};
 use std::alloc::Global;
@@ -94,8 +97,8 @@ fn visit_all<K: Asks<L>, L>(
     kinds: &K,
     steps: &mut Steps<L>,
 ) -> Result<VisitedAll, Memory>
-    ensures trees { IfOk result (λ visited. map tree_of visited.nodes ≡ each (λ i arg. import_of (import_rule (K.table kinds.now)) (wants_one (K.table kinds.now) kind given.now i) (tree_of arg)) 0 args.now) }
-    ensures shapes { IfOk result (λ visited. visited.shapes.items ≡ each (λ i arg. after (K.table kinds.now) (wants_one (K.table kinds.now) kind given.now i) (tree_of arg)) 0 args.now) }
+    ensures trees { IfOk result (λ visited. map tree_of visited.nodes ≡ each (λ i arg. import_of (import_rule (K.table kinds.now)) (wants_one (K.table kinds.now) kind given.now i) (tree_of arg)) args.now) }
+    ensures shapes { IfOk result (λ visited. visited.shapes.items ≡ each (λ i arg. after (K.table kinds.now) (wants_one (K.table kinds.now) kind given.now i) (tree_of arg)) args.now) }
 {
     let mut nodes = Nodes::new(alloc);
     let mut shapes = Vec::new(alloc);

@@ -159,3 +159,16 @@ fn is_intersection(node: &Node) -> bool
         | Class::Call { .. } => false,
     }
 }
+
+/// Puts a node behind the others.
+pub(crate) fn put(nodes: &mut Nodes, node: Node) -> Result<(), Memory>
+    ensures { OnOk result (nodes.new ≡ nodes.old ++ node ∷ []) }
+{
+    match nodes.push(node) {
+        Ok(()) => Ok(()),
+        Err(node) => {
+            drop(node);
+            Err(Memory)
+        }
+    }
+}
