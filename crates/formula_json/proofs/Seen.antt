@@ -1,14 +1,10 @@
 -- An array's elements, as definitions and as parsed values see them.
-use Rattle.std.proofs.Common.{◌≡◌, List, [], ◌∷◌, Vec, Global, Some, None, if◌then◌else◌, is_some, map, refl, ap}
-use Rattle.std.proofs.lemmas.List.Folds.{list_all-map}
-use Rattle.std.specs.List.{list_all}
-use Rattle.serde_json.specs.Find.{as_str}
+use Rattle.std.proofs.Common.{◌≡◌, List, [], ◌∷◌, Vec, Global, map, refl, ap}
 use Rattle.serde_json.specs.View.{view, items_view}
 use Rattle.serde_json.specs.declared.value.Value.{Value, Array}
 use Rattle.serde_json.proofs.Views.{view-Array, members_len-members_view}
-use Rattle.request_core.specs.Fields.{fields}
-use Rattle.request_core.specs.Formula.{node_in, node_of, nodes_of, node_seen}
-use Rattle.request_core.specs.Request.{texts_in}
+use Rattle.formula_json.specs.Fields.{fields}
+use Rattle.formula_json.specs.Formula.{node_in, node_of, nodes_of, node_seen}
 
 -- the elements of a parsed array, each as its data
 pub fields-items_view : (values : List Value) → fields (items_view values) ≡ map view values
@@ -31,11 +27,3 @@ node_of-Array values = rw (view-Array, fields-items_view, nodes_of-items_view) r
 
 -- for a reader that counts keys
 pub ruleset members = (members_len-members_view)
-
--- that all elements of a parsed array are texts
-pub texts_in-map : (values : List Value) → texts_in (map view values) ≡ (if list_all (λ value. is_some (as_str (view value))) values then Some tt else None)
-unfolding texts_in
-texts_in-map values = ap (λ passes. if passes then Some tt else None) (list_all-map (λ place. is_some (as_str place)) view values)
-
--- for a reader of texts
-pub ruleset texts = (texts_in-map)
