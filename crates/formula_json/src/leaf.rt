@@ -5,7 +5,9 @@ ghost use Rattle.formula_json.specs.Answer.{Finds, Gives};
 ghost use Rattle.formula_json.specs.Leaves.{boolean_of, number_of, text_of, error_of, empty_of, reference_of, range_of, wrong_reference_of, wrong_range_of, array_of, defined_name_of, table_of, variable_of, parse_error_of, leaf_of};
 
 use crate::error::RequestError;
-use crate::field::{check_length, read_i32, read_i64, read_id, read_name, read_own_text, read_truth, read_u32};
+use crate::field::{
+    check_length, read_i32, read_i64, read_id, read_name, read_own_text, read_truth, read_u32,
+};
 use crate::literal::read_rows;
 use crate::names::read_error;
 use crate::tag::Leaf;
