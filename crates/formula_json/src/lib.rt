@@ -25,3 +25,5 @@ mod node;
 mod object;
 mod parameters;
 mod tag;
+#[cfg(test)]
+mod tests;
