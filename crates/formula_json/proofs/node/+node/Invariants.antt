@@ -1,5 +1,4 @@
 use Rattle.std.proofs.Common.{drop, map}
-use Rattle.tree_core.specs.declared.node.Node.{Node}
 use Rattle.formula_json.specs.Each.{each}
 use Rattle.formula_json.specs.Formula.{node_seen}
 use Rattle.formula_json.proofs.Each.{Reached}
