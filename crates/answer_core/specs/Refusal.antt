@@ -7,8 +7,8 @@
 use Rattle.std.specs.Prelude.{◌≡◌, ℕ, ◌≤◌, Result, Ok, Err, List, [], ◌∷◌, ◌++◌, codes}
 use Rattle.device_core.specs.declared.read.ReadError.{ReadError}
 use Rattle.device_core.specs.declared.read.ReadError.TheVariants as read
-use Rattle.request_core.specs.declared.error.RequestError.{RequestError}
-use Rattle.request_core.specs.declared.error.RequestError.TheVariants as request
+use Rattle.request_core.specs.declared.RequestError.{RequestError}
+use Rattle.request_core.specs.declared.RequestError.TheVariants as request
 use Rattle.answer_core.specs.declared.status.Status.{Status}
 use Rattle.answer_core.specs.declared.status.Status.TheVariants as status
 use Rattle.answer_core.specs.declared.refusal.Refusal.{Refusal}

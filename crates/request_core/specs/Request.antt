@@ -2,7 +2,6 @@
 --
 -- `data_of`       the JSON value that bytes are, if they are UTF-8; of equal keys the last one counts
 -- `is_blank`      that a byte may stand between the words of a JSON text
--- `has_members`   that a value is an object with that many keys
 -- `texts_in`      that each element of an array is a text
 -- `sheets_in`     the sheets: an array of at most 2^32 - 1 texts
 -- `cells_in`      the cells: the empty array
@@ -13,23 +12,18 @@ use Rattle.std.specs.Prelude.{ℕ, ◌^◌, ◌==◌, ◌||◌, Bool, List, leng
 use Rattle.std.specs.List.{list_all}
 use Rattle.std.specs.Str.{is_utf8}
 use Rattle.serde_json.specs.Data.{Data}
-use Rattle.serde_json.specs.Events.{members_len}
-use Rattle.serde_json.specs.Find.{as_object, as_str, get}
+use Rattle.serde_json.specs.Find.{as_str, get}
 use Rattle.serde_json.specs.Read.{read}
 use Rattle.request_core.specs.declared.request.Request.{Request}
-use Rattle.request_core.specs.Fields.{◌>>=◌, places_in, if_long, u32_at, i32_at}
-use Rattle.request_core.specs.Formula.{node_of}
+use Rattle.formula_json.specs.Fields.{◌>>=◌, places_in, if_long, u32_at, i32_at}
+use Rattle.formula_json.specs.Formula.{node_of}
+use Rattle.formula_json.specs.Objects.{has_members}
 
 unfoldable pub data_of : List ℕ → Option Data
 data_of bytes = if is_utf8 bytes then read bytes else None
 
 abbrev pub is_blank : ℕ → Bool
 is_blank byte = (byte == 32) || (byte == 9) || (byte == 10) || (byte == 13)
-
-unfoldable pub has_members : ℕ → Data → Option ⊤
-has_members count datum = do
-  members ← as_object datum
-  if members_len members == count then Some tt else None
 
 unfoldable pub texts_in : List Data → Option ⊤
 texts_in places = if list_all (λ place. is_some (as_str place)) places then Some tt else None

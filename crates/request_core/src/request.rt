@@ -2,12 +2,12 @@ ghost use Rattle.std.specs.Prelude.{◌≡◌, IfOk, Some, None, option_and_then
 ghost use Rattle.std.specs.List.{list_all};
 ghost use Rattle.serde_json.specs.Find.{as_str, get};
 ghost use Rattle.serde_json.specs.View.{view};
-ghost use Rattle.request_core.specs.Answer.{Finds, FindsBy, Gives, GivesBy};
-ghost use Rattle.request_core.specs.Request.{is_blank, data_of, has_members, texts_in, sheets_in, cells_in, cell_in, request_in, request_of};
+ghost use Rattle.formula_json.specs.Answer.{Finds, FindsBy, Gives, GivesBy};
+ghost use Rattle.request_core.specs.Request.{is_blank, data_of, texts_in, sheets_in, cells_in, cell_in, request_in, request_of};
 
-use crate::error::RequestError;
-use crate::field::{check_length, read_array, read_i32, read_u32};
-use crate::node::read_node;
+use formula_json::{
+    RequestError, check_length, check_members, member, read_array, read_i32, read_node, read_u32,
+};
 use serde_json::Value;
 use std::alloc::Global;
 use tree_core::Node;
@@ -71,25 +71,6 @@ fn read_value(alloc: Global, value: &Value) -> Result<Request, RequestError>
     check_cell(member(value, "cell")?)?;
     let formula = read_node(alloc, member(value, "formula")?)?;
     Ok(Request { formula })
-}
-
-#[tactic(auto, unfolding(crate::specs::Request::has_members), using(crate::proofs::Seen::members))]
-fn check_members(value: &Value, count: usize) -> Result<(), RequestError>
-    ensures { Finds result (has_members count (view value.now)) }
-{
-    match value.as_object() {
-        Some(members) if members.len() == count => Ok(()),
-        _ => Err(RequestError::NotOfForm),
-    }
-}
-
-fn member<'v>(value: &'v Value, key: &str) -> Result<&'v Value, RequestError>
-    ensures { FindsBy (λ found. view found.now) result (get key.now (view value.now)) }
-{
-    match value.get(key) {
-        Some(found) => Ok(found),
-        None => Err(RequestError::NotOfForm),
-    }
 }
 
 #[tactic(auto, unfolding(crate::specs::Request::sheets_in))]

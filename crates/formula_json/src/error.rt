@@ -1,6 +1,6 @@
 ghost use Rattle.std.specs.Prelude.{◌≡◌};
 
-use std::alloc::AllocError;
+use std::alloc::{AllocError, AllocFailed};
 
 /// Why there is no request to hand out.
 #[derive(Clone, Copy, Debug, PartialEq, Eq)]
@@ -12,7 +12,7 @@ pub enum RequestError {
 }
 
 impl From<AllocError> for RequestError {
-    ghost use Rattle.request_core.specs.declared.error.RequestError.TheVariants.{Memory};
+    ghost use Rattle.formula_json.specs.declared.error.RequestError.TheVariants.{Memory};
     ghost use Rattle.std.specs.Prelude.{◌≡◌};
 
     ghost from_gives = { λ _ error. error ≡ Memory };
@@ -23,12 +23,23 @@ impl From<AllocError> for RequestError {
 }
 
 impl From<tree_core::Memory> for RequestError {
-    ghost use Rattle.request_core.specs.declared.error.RequestError.TheVariants.{Memory};
+    ghost use Rattle.formula_json.specs.declared.error.RequestError.TheVariants.{Memory};
     ghost use Rattle.std.specs.Prelude.{◌≡◌};
 
     ghost from_gives = { λ _ error. error ≡ Memory };
 
     fn from(_error: tree_core::Memory) -> RequestError {
+        RequestError::Memory
+    }
+}
+
+impl<T: Drop> From<AllocFailed<T>> for RequestError {
+    ghost use Rattle.formula_json.specs.declared.error.RequestError.TheVariants.{Memory};
+    ghost use Rattle.std.specs.Prelude.{◌≡◌};
+
+    ghost from_gives = { λ _ error. error ≡ Memory };
+
+    fn from(_error: AllocFailed<T>) -> RequestError {
         RequestError::Memory
     }
 }

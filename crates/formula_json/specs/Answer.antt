@@ -6,8 +6,8 @@
 -- `Finds`    `FindsBy`, of the value itself
 -- `Gives`    `GivesBy`, of the value itself
 use Rattle.std.specs.Prelude.{◌≡◌, Option, Some, None, Result, Ok, Err, ⊤}
-use Rattle.request_core.specs.declared.error.RequestError.{RequestError}
-use Rattle.request_core.specs.declared.error.RequestError.TheVariants.{Memory, NotOfForm}
+use Rattle.formula_json.specs.declared.error.RequestError.{RequestError}
+use Rattle.formula_json.specs.declared.error.RequestError.TheVariants.{Memory, NotOfForm}
 
 abbrev pub FindsBy : {T S : Type 0} → (T → S) → Result T RequestError → Option S → Type 0
 FindsBy seen (Ok value) there = there ≡ Some (seen value)

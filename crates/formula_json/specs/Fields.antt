@@ -4,7 +4,9 @@
 -- `fields`     the elements of an array, in order
 -- `places_in`  the elements of a value that is an array
 -- `if_long`    what is found, if the array has that many elements
+-- `u32_in`     the whole number from 0 to 2^32 - 1 that a value is
 -- `u32_at`     a whole number from 0 to 2^32 - 1
+-- `id_at`      a whole number from 0 to 2^32 - 1, or null, which is no number
 -- `i32_at`     a whole number from -2^31 to 2^31 - 1
 -- `i64_at`     a whole number from -2^63 to 2^63 - 1
 -- `truth_at`   a truth value
@@ -28,12 +30,21 @@ places_in datum = option_map fields (as_array datum)
 abbrev pub if_long : {A : Type 0} → ℕ → List Data → Option A → Option A
 if_long count places found = if length places == count then found else None
 
-unfoldable pub u32_at : ℕ → List Data → Option ℕ
-u32_at place places = do
-  datum ← slice_get places place
+unfoldable pub u32_in : Data → Option ℕ
+u32_in datum = do
   number ← as_number datum
   whole ← as_u64 number
   if nat_lt whole (2 ^ 32) then Some whole else None
+
+unfoldable pub u32_at : ℕ → List Data → Option ℕ
+u32_at place places = do
+  datum ← slice_get places place
+  u32_in datum
+
+unfoldable pub id_at : ℕ → List Data → Option (Option ℕ)
+id_at place places = do
+  datum ← slice_get places place
+  if is_some (as_null datum) then Some None else option_map Some (u32_in datum)
 
 unfoldable pub i64_at : ℕ → List Data → Option ℤ
 i64_at place places = do

@@ -1,8 +1,8 @@
 //! What one place of an array may hold. Place 0 is the first.
 ghost use Rattle.std.specs.Prelude.{◌≡◌, ◌==◌, if◌then◌else◌, map, length, option_map, slice_get, Some, None};
 ghost use Rattle.serde_json.specs.View.{view};
-ghost use Rattle.request_core.specs.Answer.{Finds, FindsBy, Gives};
-ghost use Rattle.request_core.specs.Fields.{places_in, u32_at, i32_at, i64_at, truth_at, text_at, name_at};
+ghost use Rattle.formula_json.specs.Answer.{Finds, FindsBy, Gives};
+ghost use Rattle.formula_json.specs.Fields.{places_in, u32_in, u32_at, id_at, i32_at, i64_at, truth_at, text_at, name_at};
 
 use crate::error::RequestError;
 use serde_json::Value;
@@ -20,13 +20,24 @@ pub fn read_array(value: &Value) -> Result<&[Value], RequestError>
     }
 }
 
-fn item_at(items: &[Value], place: usize) -> Option<&Value>
-    ensures { option_map (λ value. view value.now) result ≡ slice_get (map view items.now) place }
+/// What stands at a place.
+pub fn read_item(items: &[Value], place: usize) -> Result<&Value, RequestError>
+    ensures { FindsBy (λ value. view value.now) result (slice_get (map view items.now) place) }
 {
     if place < items.len() {
-        Some(&items[place])
+        Ok(&items[place])
     } else {
-        None
+        Err(RequestError::NotOfForm)
+    }
+}
+
+#[tactic(auto, unfolding(crate::specs::Fields::u32_in))]
+fn u32_in(value: &Value) -> Option<u32>
+    ensures { result ≡ u32_in (view value.now) }
+{
+    match value.as_u64() {
+        Some(whole) if whole <= u32::MAX as u64 => Some(whole as u32),
+        _ => None,
     }
 }
 
@@ -46,12 +57,25 @@ pub fn check_length(items: &[Value], count: usize) -> Result<(), RequestError>
 pub fn read_u32(items: &[Value], place: usize) -> Result<u32, RequestError>
     ensures { Finds result (u32_at place (map view items.now)) }
 {
-    let Some(value) = item_at(items, place) else {
-        return Err(RequestError::NotOfForm);
-    };
-    match value.as_u64() {
-        Some(whole) if whole <= u32::MAX as u64 => Ok(whole as u32),
-        _ => Err(RequestError::NotOfForm),
+    let value = read_item(items, place)?;
+    match u32_in(value) {
+        Some(whole) => Ok(whole),
+        None => Err(RequestError::NotOfForm),
+    }
+}
+
+/// A whole number from 0 to 2^32 - 1, or null, which is no number.
+#[tactic(auto, unfolding(crate::specs::Fields::id_at))]
+pub fn read_id(items: &[Value], place: usize) -> Result<Option<u32>, RequestError>
+    ensures { Finds result (id_at place (map view items.now)) }
+{
+    let value = read_item(items, place)?;
+    if value.is_null() {
+        return Ok(None);
+    }
+    match u32_in(value) {
+        Some(whole) => Ok(Some(whole)),
+        None => Err(RequestError::NotOfForm),
     }
 }
 
@@ -60,9 +84,7 @@ pub fn read_u32(items: &[Value], place: usize) -> Result<u32, RequestError>
 pub fn read_i64(items: &[Value], place: usize) -> Result<i64, RequestError>
     ensures { Finds result (i64_at place (map view items.now)) }
 {
-    let Some(value) = item_at(items, place) else {
-        return Err(RequestError::NotOfForm);
-    };
+    let value = read_item(items, place)?;
     match value.as_i64() {
         Some(whole) => Ok(whole),
         None => Err(RequestError::NotOfForm),
@@ -87,9 +109,7 @@ pub fn read_i32(items: &[Value], place: usize) -> Result<i32, RequestError>
 pub fn read_truth(items: &[Value], place: usize) -> Result<bool, RequestError>
     ensures { Finds result (truth_at place (map view items.now)) }
 {
-    let Some(value) = item_at(items, place) else {
-        return Err(RequestError::NotOfForm);
-    };
+    let value = read_item(items, place)?;
     match value.as_bool() {
         Some(truth) => Ok(truth),
         None => Err(RequestError::NotOfForm),
@@ -101,13 +121,19 @@ pub fn read_truth(items: &[Value], place: usize) -> Result<bool, RequestError>
 pub fn read_text(items: &[Value], place: usize) -> Result<&str, RequestError>
     ensures { FindsBy (λ text. text.now) result (text_at place (map view items.now)) }
 {
-    let Some(value) = item_at(items, place) else {
-        return Err(RequestError::NotOfForm);
-    };
+    let value = read_item(items, place)?;
     match value.as_str() {
         Some(text) => Ok(text),
         None => Err(RequestError::NotOfForm),
     }
+}
+
+/// A text, as one of its own.
+pub fn read_own_text(alloc: Global, items: &[Value], place: usize) -> Result<Text, RequestError>
+    ensures { Gives result (text_at place (map view items.now)) }
+{
+    let text = read_text(items, place)?;
+    Ok(Text::from_text(alloc, text)?)
 }
 
 /// A text, or null, which is no name.
@@ -115,9 +141,7 @@ pub fn read_text(items: &[Value], place: usize) -> Result<&str, RequestError>
 pub fn read_name(alloc: Global, items: &[Value], place: usize) -> Result<Option<Text>, RequestError>
     ensures { Gives result (name_at place (map view items.now)) }
 {
-    let Some(value) = item_at(items, place) else {
-        return Err(RequestError::NotOfForm);
-    };
+    let value = read_item(items, place)?;
     if value.is_null() {
         return Ok(None);
     }
