@@ -5,15 +5,13 @@ use Rattle.std.proofs.Math.ListN.{get_or}
 use Rattle.std.proofs.lemmas.List.{take_more, take_all, map-append}
 use Rattle.std.proofs.lemmas.Option.{slice_get_within, get_or_from_slice_get}
 use Rattle.json.specs.Token.{Token, end_array}
-use Rattle.json.specs.Tree.{items_tokens}
 use Rattle.serde_json.specs.Data.{Data}
-use Rattle.serde_json.specs.Written.{items_outline}
-use Rattle.print_core.specs.Piece.{data_tokens, list_tokens, items_of}
+use Rattle.print_core.specs.Piece.{data_tokens, list_tokens, rest_tokens}
 
 -- an array's items are its values and the closing bracket
-pub items_tokens-items_of : (values : List Data) → items_tokens (items_outline (items_of values)) ≡ list_tokens values ++ end_array ∷ []
-items_tokens-items_of [] = refl
-items_tokens-items_of (value ∷ values) = ap (λ tokens. data_tokens value ++ tokens) (items_tokens-items_of values) ∙ sym (append_assoc (data_tokens value) (list_tokens values) (end_array ∷ []))
+pub rest_tokens-is : (values : List Data) → rest_tokens values ≡ list_tokens values ++ end_array ∷ []
+rest_tokens-is [] = refl
+rest_tokens-is (value ∷ values) = ap (λ tokens. data_tokens value ++ tokens) (rest_tokens-is values) ∙ sym (append_assoc (data_tokens value) (list_tokens values) (end_array ∷ []))
 
 pub list_tokens-append : (values later : List Data) → list_tokens (values ++ later) ≡ list_tokens values ++ list_tokens later
 list_tokens-append [] later = refl
@@ -40,13 +38,12 @@ module _ {A : Type 0} (form : A → Data) (all : List A) where
   pub written_all : (old now : List Token) (place : ℕ) → now ≡ old ++ tokens_before place → length all ≤ place → now ≡ old ++ list_tokens (map form all)
   written_all old now place so_far past = so_far ∙ ap (λ some. old ++ list_tokens (map form some)) (take_all place all past)
 
--- one more part behind others
-pub further : (old now new front part : List Token) → now ≡ old ++ front → new ≡ now ++ part → new ≡ old ++ (front ++ part)
-further old now new front part so_far one = one ∙ ap (λ tokens. tokens ++ part) so_far ∙ append_assoc old front part
+-- values behind others, and the end of their array
+pub ended : (old last new : List Token) (values : List Data) → last ≡ old ++ list_tokens values → new ≡ last ++ end_array ∷ [] → new ≡ old ++ rest_tokens values
+ended old last new values all end =
+    end ∙ ap (λ tokens. tokens ++ end_array ∷ []) all ∙ append_assoc old (list_tokens values) (end_array ∷ []) ∙ ap (λ tokens. old ++ tokens) (sym (rest_tokens-is values))
 
--- some values and the closing bracket behind other parts
-pub closed : (old now last new front : List Token) (values : List Data) → now ≡ old ++ front → last ≡ now ++ list_tokens values → new ≡ last ++ end_array ∷ []
-    → new ≡ old ++ (front ++ items_tokens (items_outline (items_of values)))
+-- the same behind one more part
+pub closed : (old now last new front : List Token) (values : List Data) → now ≡ old ++ front → last ≡ now ++ list_tokens values → new ≡ last ++ end_array ∷ [] → new ≡ old ++ (front ++ rest_tokens values)
 closed old now last new front values so_far all end =
-    further old last new (front ++ list_tokens values) (end_array ∷ []) (further old now last front (list_tokens values) so_far all) end
-    ∙ ap (λ tokens. old ++ tokens) (append_assoc front (list_tokens values) (end_array ∷ []) ∙ ap (λ tokens. front ++ tokens) (sym (items_tokens-items_of values)))
+    ended now last new values all end ∙ ap (λ tokens. tokens ++ rest_tokens values) so_far ∙ append_assoc old front (rest_tokens values)

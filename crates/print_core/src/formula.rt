@@ -1,6 +1,6 @@
 ghost use Rattle.std.specs.Prelude.{◌≡◌, ◌++◌, ◌∷◌, [], OnOk, codes, map};
 ghost use Rattle.serde_json.specs.Data.{string};
-ghost use Rattle.print_core.specs.Piece.{data_tokens, list_tokens, tagged, truth, number_or_null};
+ghost use Rattle.print_core.specs.Piece.{data_tokens, rest_tokens, tagged, truth, number_or_null};
 ghost use Rattle.print_core.specs.Values.{function_data, texts_data};
 ghost use Rattle.print_core.specs.Formula.{node_data};
 ghost use Rattle.print_core.specs.Variant.{IsOperator, IsCall};
@@ -148,8 +148,7 @@ fn write_call(writer: &mut Writer, kind: Function, args: &[Node]) -> Result<(), 
 {
     begin(writer, "call")?;
     write_function(writer, kind)?;
-    write_nodes(writer, args)?;
-    end(writer)?;
+    write_arguments(writer, args)?;
     Ok(())
 }
 
@@ -168,8 +167,7 @@ fn write_named_call(
     begin(writer, "named")?;
     writer.string(name.as_str())?;
     write_number_or_null(writer, id)?;
-    write_nodes(writer, args)?;
-    end(writer)?;
+    write_arguments(writer, args)?;
     Ok(())
 }
 
@@ -196,19 +194,20 @@ fn write_lambda_call(writer: &mut Writer, lambda: &Node, args: &[Node]) -> Resul
 {
     begin(writer, "lambdacall")?;
     write_node(writer, lambda)?;
-    write_nodes(writer, args)?;
-    end(writer)?;
+    write_arguments(writer, args)?;
     Ok(())
 }
 
+/// Writes the arguments of a call, which are the last of its items, and closes its array.
 #[cycle(formula)]
-fn write_nodes(writer: &mut Writer, nodes: &[Node]) -> Result<(), Memory>
+fn write_arguments(writer: &mut Writer, args: &[Node]) -> Result<(), Memory>
     ensures before { writer.new.before ≡ writer.old.before }
     ensures tokens { OnOk result
-        (writer.new.tokens ≡ writer.old.tokens ++ list_tokens (map node_data nodes.now)) }
+        (writer.new.tokens ≡ writer.old.tokens ++ rest_tokens (map node_data args.now)) }
 {
-    for node in nodes {
-        write_node(writer, node)?;
+    for argument in args {
+        write_node(writer, argument)?;
     }
+    end(writer)?;
     Ok(())
 }

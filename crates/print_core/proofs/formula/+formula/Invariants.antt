@@ -36,12 +36,12 @@ decreases-write_lambda l = 4 * size-Node l.body.now + 4
 abbrev pub decreases-write_lambda_call : goal.decreases-write_lambda_call
 decreases-write_lambda_call l = 4 * max (size-Node l.lambda.now) (most size-Node l.args.now) + 5
 
-abbrev pub decreases-write_nodes : goal.decreases-write_nodes
-decreases-write_nodes l = 4 * most size-Node l.nodes.now + 4
+abbrev pub decreases-write_arguments : goal.decreases-write_arguments
+decreases-write_arguments l = 4 * most size-Node l.args.now + 4
 
--- the nodes so far have been written
-abbrev pub invariant-write_nodes-loop-node : goal.invariant-write_nodes-loop-node
-invariant-write_nodes-loop-node l = record {
+-- the arguments so far have been written
+abbrev pub invariant-write_arguments-loop-argument : goal.invariant-write_arguments-loop-argument
+invariant-write_arguments-loop-argument l = record {
   before : l.writer.before ≡ l.initial.writer.before;
-  tokens : l.writer.tokens ≡ l.initial.writer.tokens ++ tokens_before node_data l.nodes l.node-index
+  tokens : l.writer.tokens ≡ l.initial.writer.tokens ++ tokens_before node_data l.args l.argument-index
 }
