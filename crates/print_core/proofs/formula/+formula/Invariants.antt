@@ -43,5 +43,5 @@ decreases-write_arguments l = 4 * most size-Node l.args.now + 4
 abbrev pub invariant-write_arguments-loop-argument : goal.invariant-write_arguments-loop-argument
 invariant-write_arguments-loop-argument l = record {
   before : l.writer.before ≡ l.initial.writer.before;
-  tokens : l.writer.tokens ≡ l.initial.writer.tokens ++ tokens_before node_data l.args l.argument-index
+  tokens : l.writer.tokens ≡ l.initial.writer.tokens ++ tokens_before node_data l.args l.argument-index;
 }

@@ -7,5 +7,5 @@ use Rattle.print_core.proofs.value.write_rows.Given as goal
 abbrev pub invariant-loop-row : goal.invariant-loop-row
 invariant-loop-row l = record {
   before : l.writer.before ≡ l.initial.writer.before;
-  tokens : l.writer.tokens ≡ l.initial.writer.tokens ++ tokens_before row_data l.rows l.row
+  tokens : l.writer.tokens ≡ l.initial.writer.tokens ++ tokens_before row_data l.rows l.row;
 }

@@ -7,5 +7,5 @@ use Rattle.print_core.proofs.value.write_texts.Given as goal
 abbrev pub invariant-loop-index : goal.invariant-loop-index
 invariant-loop-index l = record {
   before : l.writer.before ≡ l.initial.writer.before;
-  tokens : l.writer.tokens ≡ l.initial.writer.tokens ++ tokens_before string l.texts l.index
+  tokens : l.writer.tokens ≡ l.initial.writer.tokens ++ tokens_before string l.texts l.index;
 }
