@@ -1,3 +1,5 @@
 pub mod Piece
+pub mod Values
 pub mod Formula
+pub mod Variant
 pub mod Answer

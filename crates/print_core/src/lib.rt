@@ -2,7 +2,9 @@
 //!
 //! - `answer`: the whole line of an answer.
 //! - `formula`: the JSON form of a formula, over all its nodes.
-//! - `reference`: the forms of a reference and of a range.
+//! - `leaf`: the forms of other nodes without children.
+//! - `reference`: the forms of a reference and of a range, wrong or not.
+//! - `value`: the values of an array literal, some texts, and a kind of function.
 //! - `tag`: the word that begins an operator's form.
 //! - `piece`: an array's ends, a whole number, and a text or null.
 #![tactic(auto)]
@@ -11,8 +13,10 @@ pub use answer::answer_line;
 
 mod answer;
 mod formula;
+mod leaf;
 mod piece;
 mod reference;
 mod tag;
 #[cfg(test)]
 mod tests;
+mod value;

@@ -1,6 +1,6 @@
 ghost use Rattle.std.specs.Prelude.{◌≡◌, ◌++◌, ◌∷◌, [], OnOk};
 ghost use Rattle.json.specs.Token.{begin_array, end_array, string};
-ghost use Rattle.print_core.specs.Piece.{data_tokens, whole, text_or_null};
+ghost use Rattle.print_core.specs.Piece.{data_tokens, whole, text_or_null, number_or_null};
 
 use json::Writer;
 use tree_core::{Memory, Text};
@@ -43,6 +43,18 @@ pub(crate) fn write_text_or_null(writer: &mut Writer, text: &Option<Text>) -> Re
 {
     match text {
         Some(text) => writer.string(text.as_str())?,
+        None => writer.null()?,
+    }
+    Ok(())
+}
+
+pub(crate) fn write_number_or_null(writer: &mut Writer, number: Option<u32>) -> Result<(), Memory>
+    ensures before { writer.new.before ≡ writer.old.before }
+    ensures tokens { OnOk result
+        (writer.new.tokens ≡ writer.old.tokens ++ data_tokens (number_or_null number)) }
+{
+    match number {
+        Some(number) => write_whole(writer, i64::from(number))?,
         None => writer.null()?,
     }
     Ok(())
