@@ -13,6 +13,7 @@ use Rattle.std.specs.declared.alloc.Global.{Global}
 use Rattle.device_core.specs.Faults.{Rose}
 use Rattle.device_core.specs.Flow.{Consumes, ConsumesAtMost, ConsumesCount, IsAtEnd, Adds, AddsFront}
 use Rattle.device_core.specs.declared.read.TheConstants.{LIMIT}
+use Rattle.kind_table.specs.CrateTable.{crate_table}
 use Rattle.request_core.specs.declared.request.Request.{Request}
 use Rattle.request_core.specs.Request.{request_of}
 use Rattle.print_core.specs.Answer.{answer_line}
@@ -36,7 +37,7 @@ pub record IsAnswered (old new : Option (List ℕ)) (text : List ℕ) : Type 0 w
   pub request : Request
   pub is_request : request_of bytes ≡ Some request
   pub answer : Answer
-  pub answers : Answers request.formula answer
+  pub answers : Answers crate_table request.formula answer
   pub text_is : text ≡ answer_line answer.imported
 
 pub record IsNoRequest (old new : Option (List ℕ)) : Type 0 where

@@ -2,8 +2,9 @@ ghost use Rattle.std.specs.Prelude.{IfOk};
 ghost use Rattle.answer_core.specs.Answers.{Answers};
 
 use intersect::imported;
+use kind_table::Asks;
 use std::alloc::Global;
-use tree_core::{Memory, Node};
+use tree_core::{Memory, Node, Plain};
 
 /// The answer to a formula.
 #[derive(Debug, Drop)]
@@ -12,10 +13,14 @@ pub struct Answer {
     pub imported: Node,
 }
 
-/// The answer to a formula, which stays as it is. The error means want of memory.
-pub fn answer_formula(alloc: Global, node: &Node) -> Result<Answer, Memory>
-    ensures { IfOk result (Answers node.now) }
+/// The answer to a formula by a table of kinds. The formula stays as it is. The error means want of memory.
+pub fn answer_formula<K: Asks<Plain>>(
+    alloc: Global,
+    kinds: &K,
+    node: &Node,
+) -> Result<Answer, Memory>
+    ensures { IfOk result (Answers (K.table kinds.now) node.now) }
 {
-    let imported = imported(alloc, node, true)?;
+    let imported = imported(alloc, node, true, kinds)?;
     Ok(Answer { imported })
 }

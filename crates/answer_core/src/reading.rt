@@ -6,6 +6,7 @@ ghost use Rattle.answer_core.specs.Refusal.{CountsRefusal};
 use crate::answer::answer_formula;
 use crate::refusal::Refusal;
 use device_core::{Source, read_to_end};
+use kind_table::CrateKinds;
 use print_core::answer_line;
 use request_core::read_request;
 use std::alloc::Global;
@@ -54,7 +55,7 @@ fn answer<S: Source>(alloc: Global, source: &mut S) -> Result<Vec<u8>, Refusal>
     let bytes = read_to_end(alloc, source)?;
     let request = read_request(alloc, bytes.as_slice())?;
     drop(bytes);
-    let answer = answer_formula(alloc, &request.formula)?;
+    let answer = answer_formula(alloc, &CrateKinds, &request.formula)?;
     drop(request);
     let line = answer_line(alloc, &answer.imported)?;
     drop(answer);

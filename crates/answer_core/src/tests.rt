@@ -1,5 +1,6 @@
 use crate::{Status, answer_formula, run};
 use device_core::{MemorySink, MemorySource, SureSink, SureSource};
+use kind_table::CrateKinds;
 use std::alloc::{AllocError, Global};
 use std::test::Fail;
 use tree_core::Node;
@@ -86,7 +87,7 @@ fn no_input_is_too_long_but_past_the_limit(rt: HostRuntime) -> Result<(), Fail> 
 
 #[test]
 fn a_number_is_its_own_answer(rt: HostRuntime) -> Result<(), Fail> {
-    let answer = answer_formula(rt.alloc(), &Node::NumberKind(7))?;
+    let answer = answer_formula(rt.alloc(), &CrateKinds, &Node::NumberKind(7))?;
     assert_eq!(rt; answer.imported, Node::NumberKind(7));
     Ok(())
 }
