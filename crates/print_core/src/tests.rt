@@ -98,7 +98,6 @@ static CALL_FORMS: [&str; 7] = [
 ];
 
 fn leaf(alloc: Global, place: usize) -> Result<Node, Memory> {
-    let text = Text::from_text(alloc, "S")?;
     match place {
         0 => Ok(Node::BooleanKind(false)),
         1 => Ok(Node::NumberKind(-1500000)),
@@ -108,7 +107,7 @@ fn leaf(alloc: Global, place: usize) -> Result<Node, Memory> {
         5 => reference(alloc, "S"),
         6 => Ok(range(None)),
         7 => Ok(Node::WrongReferenceKind {
-            sheet_name: Some(text),
+            sheet_name: Some(Text::from_text(alloc, "S")?),
             absolute_row: false,
             absolute_column: true,
             row: -1,
