@@ -17,6 +17,7 @@ mod clone;
 mod count;
 mod equality;
 mod error;
+mod flags;
 mod laws;
 mod memory;
 mod names;
