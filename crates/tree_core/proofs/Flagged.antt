@@ -18,7 +18,7 @@ use Rattle.tree_core.specs.declared.node.Node.TheVariants.{OpRangeKind, OpConcat
 use Rattle.tree_core.specs.declared.node.Node.TheVariants.{rolls-OpRangeKind, rolls-OpConcatenateKind, rolls-OpPowerKind, rolls-OpSumKind, rolls-OpProductKind, rolls-CompareKind, rolls-UnaryKind, rolls-SpillRangeOperator, rolls-LambdaDefKind, rolls-FunctionKind, rolls-NamedFunctionKind, rolls-LambdaCallKind, rolls-ImplicitIntersection}
 use Rattle.tree_core.specs.declared.node.Node.TheVariants.{outs-OpRangeKind, outs-OpConcatenateKind, outs-OpPowerKind, outs-OpSumKind, outs-OpProductKind, outs-CompareKind, outs-UnaryKind, outs-SpillRangeOperator, outs-LambdaDefKind, outs-FunctionKind, outs-NamedFunctionKind, outs-LambdaCallKind, outs-ImplicitIntersection}
 
-abbrev step : Node-F Node → Node
+abbrev pub step : Node-F Node → Node
 step node = roll-Node (set_flag node)
 
 pub flagged_range_operator : (left right : Node) → flags_set (OpRangeKind left right) ≡ OpRangeKind (flags_set left) (flags_set right)
@@ -65,119 +65,132 @@ alike_range_operator {node} {node'} left left' right right' is is' =
     let before : flags_set node ≡ OpRangeKind (flags_set left) (flags_set right) = ap flags_set is ∙ flagged_range_operator left right in
     let after : flags_set node' ≡ OpRangeKind (flags_set left') (flags_set right') = ap flags_set is' ∙ flagged_range_operator left' right' in
     let layers : flags_set node ≡ flags_set node' → Node-F.OpRangeKind (flags_set left) (flags_set right) ≡ Node-F.OpRangeKind (flags_set left') (flags_set right') =
-          λ e. sym (outs-OpRangeKind (flags_set left) (flags_set right)) ∙ ap out-Node (sym before ∙ e ∙ after) ∙ outs-OpRangeKind (flags_set left') (flags_set right') in
-    (λ e. let same : Node-F.OpRangeKind (flags_set left) (flags_set right) ≡ Node-F.OpRangeKind (flags_set left') (flags_set right') = layers e in (cc, cc),
-     λ same. let p : flags_set left ≡ flags_set left' = same.0 in let q : flags_set right ≡ flags_set right' = same.1 in cc)
+    λ e. sym (outs-OpRangeKind (flags_set left) (flags_set right)) ∙ ap out-Node (sym before ∙ e ∙ after) ∙ outs-OpRangeKind (flags_set left') (flags_set right') in (
+      λ e. let same : Node-F.OpRangeKind (flags_set left) (flags_set right) ≡ Node-F.OpRangeKind (flags_set left') (flags_set right') = layers e in (cc, cc),
+      λ same. let p : flags_set left ≡ flags_set left' = same.0 in let q : flags_set right ≡ flags_set right' = same.1 in cc,
+    )
 
 pub alike_concatenation : {node node' : Node} (left left' : Node) (right right' : Node) → node ≡ OpConcatenateKind left right → node' ≡ OpConcatenateKind left' right' → (flags_set node ≡ flags_set node') ↔ ((flags_set left ≡ flags_set left') × (flags_set right ≡ flags_set right'))
 alike_concatenation {node} {node'} left left' right right' is is' =
     let before : flags_set node ≡ OpConcatenateKind (flags_set left) (flags_set right) = ap flags_set is ∙ flagged_concatenation left right in
     let after : flags_set node' ≡ OpConcatenateKind (flags_set left') (flags_set right') = ap flags_set is' ∙ flagged_concatenation left' right' in
     let layers : flags_set node ≡ flags_set node' → Node-F.OpConcatenateKind (flags_set left) (flags_set right) ≡ Node-F.OpConcatenateKind (flags_set left') (flags_set right') =
-          λ e. sym (outs-OpConcatenateKind (flags_set left) (flags_set right)) ∙ ap out-Node (sym before ∙ e ∙ after) ∙ outs-OpConcatenateKind (flags_set left') (flags_set right') in
-    (λ e. let same : Node-F.OpConcatenateKind (flags_set left) (flags_set right) ≡ Node-F.OpConcatenateKind (flags_set left') (flags_set right') = layers e in (cc, cc),
-     λ same. let p : flags_set left ≡ flags_set left' = same.0 in let q : flags_set right ≡ flags_set right' = same.1 in cc)
+    λ e. sym (outs-OpConcatenateKind (flags_set left) (flags_set right)) ∙ ap out-Node (sym before ∙ e ∙ after) ∙ outs-OpConcatenateKind (flags_set left') (flags_set right') in (
+      λ e. let same : Node-F.OpConcatenateKind (flags_set left) (flags_set right) ≡ Node-F.OpConcatenateKind (flags_set left') (flags_set right') = layers e in (cc, cc),
+      λ same. let p : flags_set left ≡ flags_set left' = same.0 in let q : flags_set right ≡ flags_set right' = same.1 in cc,
+    )
 
 pub alike_power : {node node' : Node} (left left' : Node) (right right' : Node) → node ≡ OpPowerKind left right → node' ≡ OpPowerKind left' right' → (flags_set node ≡ flags_set node') ↔ ((flags_set left ≡ flags_set left') × (flags_set right ≡ flags_set right'))
 alike_power {node} {node'} left left' right right' is is' =
     let before : flags_set node ≡ OpPowerKind (flags_set left) (flags_set right) = ap flags_set is ∙ flagged_power left right in
     let after : flags_set node' ≡ OpPowerKind (flags_set left') (flags_set right') = ap flags_set is' ∙ flagged_power left' right' in
     let layers : flags_set node ≡ flags_set node' → Node-F.OpPowerKind (flags_set left) (flags_set right) ≡ Node-F.OpPowerKind (flags_set left') (flags_set right') =
-          λ e. sym (outs-OpPowerKind (flags_set left) (flags_set right)) ∙ ap out-Node (sym before ∙ e ∙ after) ∙ outs-OpPowerKind (flags_set left') (flags_set right') in
-    (λ e. let same : Node-F.OpPowerKind (flags_set left) (flags_set right) ≡ Node-F.OpPowerKind (flags_set left') (flags_set right') = layers e in (cc, cc),
-     λ same. let p : flags_set left ≡ flags_set left' = same.0 in let q : flags_set right ≡ flags_set right' = same.1 in cc)
+    λ e. sym (outs-OpPowerKind (flags_set left) (flags_set right)) ∙ ap out-Node (sym before ∙ e ∙ after) ∙ outs-OpPowerKind (flags_set left') (flags_set right') in (
+      λ e. let same : Node-F.OpPowerKind (flags_set left) (flags_set right) ≡ Node-F.OpPowerKind (flags_set left') (flags_set right') = layers e in (cc, cc),
+      λ same. let p : flags_set left ≡ flags_set left' = same.0 in let q : flags_set right ≡ flags_set right' = same.1 in cc,
+    )
 
 pub alike_sum : {node node' : Node} (kind kind' : OpSum) (left left' : Node) (right right' : Node) → node ≡ OpSumKind kind left right → node' ≡ OpSumKind kind' left' right' → (flags_set node ≡ flags_set node') ↔ ((kind ≡ kind') × (flags_set left ≡ flags_set left') × (flags_set right ≡ flags_set right'))
 alike_sum {node} {node'} kind kind' left left' right right' is is' =
     let before : flags_set node ≡ OpSumKind kind (flags_set left) (flags_set right) = ap flags_set is ∙ flagged_sum kind left right in
     let after : flags_set node' ≡ OpSumKind kind' (flags_set left') (flags_set right') = ap flags_set is' ∙ flagged_sum kind' left' right' in
     let layers : flags_set node ≡ flags_set node' → Node-F.OpSumKind kind (flags_set left) (flags_set right) ≡ Node-F.OpSumKind kind' (flags_set left') (flags_set right') =
-          λ e. sym (outs-OpSumKind kind (flags_set left) (flags_set right)) ∙ ap out-Node (sym before ∙ e ∙ after) ∙ outs-OpSumKind kind' (flags_set left') (flags_set right') in
-    (λ e. let same : Node-F.OpSumKind kind (flags_set left) (flags_set right) ≡ Node-F.OpSumKind kind' (flags_set left') (flags_set right') = layers e in (cc, cc, cc),
-     λ same. let p : kind ≡ kind' = same.0 in let q : flags_set left ≡ flags_set left' = same.1 in let r : flags_set right ≡ flags_set right' = same.2 in cc)
+    λ e. sym (outs-OpSumKind kind (flags_set left) (flags_set right)) ∙ ap out-Node (sym before ∙ e ∙ after) ∙ outs-OpSumKind kind' (flags_set left') (flags_set right') in (
+      λ e. let same : Node-F.OpSumKind kind (flags_set left) (flags_set right) ≡ Node-F.OpSumKind kind' (flags_set left') (flags_set right') = layers e in (cc, cc, cc),
+      λ same. let p : kind ≡ kind' = same.0 in let q : flags_set left ≡ flags_set left' = same.1 in let r : flags_set right ≡ flags_set right' = same.2 in cc,
+    )
 
 pub alike_product : {node node' : Node} (kind kind' : OpProduct) (left left' : Node) (right right' : Node) → node ≡ OpProductKind kind left right → node' ≡ OpProductKind kind' left' right' → (flags_set node ≡ flags_set node') ↔ ((kind ≡ kind') × (flags_set left ≡ flags_set left') × (flags_set right ≡ flags_set right'))
 alike_product {node} {node'} kind kind' left left' right right' is is' =
     let before : flags_set node ≡ OpProductKind kind (flags_set left) (flags_set right) = ap flags_set is ∙ flagged_product kind left right in
     let after : flags_set node' ≡ OpProductKind kind' (flags_set left') (flags_set right') = ap flags_set is' ∙ flagged_product kind' left' right' in
     let layers : flags_set node ≡ flags_set node' → Node-F.OpProductKind kind (flags_set left) (flags_set right) ≡ Node-F.OpProductKind kind' (flags_set left') (flags_set right') =
-          λ e. sym (outs-OpProductKind kind (flags_set left) (flags_set right)) ∙ ap out-Node (sym before ∙ e ∙ after) ∙ outs-OpProductKind kind' (flags_set left') (flags_set right') in
-    (λ e. let same : Node-F.OpProductKind kind (flags_set left) (flags_set right) ≡ Node-F.OpProductKind kind' (flags_set left') (flags_set right') = layers e in (cc, cc, cc),
-     λ same. let p : kind ≡ kind' = same.0 in let q : flags_set left ≡ flags_set left' = same.1 in let r : flags_set right ≡ flags_set right' = same.2 in cc)
+    λ e. sym (outs-OpProductKind kind (flags_set left) (flags_set right)) ∙ ap out-Node (sym before ∙ e ∙ after) ∙ outs-OpProductKind kind' (flags_set left') (flags_set right') in (
+      λ e. let same : Node-F.OpProductKind kind (flags_set left) (flags_set right) ≡ Node-F.OpProductKind kind' (flags_set left') (flags_set right') = layers e in (cc, cc, cc),
+      λ same. let p : kind ≡ kind' = same.0 in let q : flags_set left ≡ flags_set left' = same.1 in let r : flags_set right ≡ flags_set right' = same.2 in cc,
+    )
 
 pub alike_comparison : {node node' : Node} (kind kind' : OpCompare) (left left' : Node) (right right' : Node) → node ≡ CompareKind kind left right → node' ≡ CompareKind kind' left' right' → (flags_set node ≡ flags_set node') ↔ ((kind ≡ kind') × (flags_set left ≡ flags_set left') × (flags_set right ≡ flags_set right'))
 alike_comparison {node} {node'} kind kind' left left' right right' is is' =
     let before : flags_set node ≡ CompareKind kind (flags_set left) (flags_set right) = ap flags_set is ∙ flagged_comparison kind left right in
     let after : flags_set node' ≡ CompareKind kind' (flags_set left') (flags_set right') = ap flags_set is' ∙ flagged_comparison kind' left' right' in
     let layers : flags_set node ≡ flags_set node' → Node-F.CompareKind kind (flags_set left) (flags_set right) ≡ Node-F.CompareKind kind' (flags_set left') (flags_set right') =
-          λ e. sym (outs-CompareKind kind (flags_set left) (flags_set right)) ∙ ap out-Node (sym before ∙ e ∙ after) ∙ outs-CompareKind kind' (flags_set left') (flags_set right') in
-    (λ e. let same : Node-F.CompareKind kind (flags_set left) (flags_set right) ≡ Node-F.CompareKind kind' (flags_set left') (flags_set right') = layers e in (cc, cc, cc),
-     λ same. let p : kind ≡ kind' = same.0 in let q : flags_set left ≡ flags_set left' = same.1 in let r : flags_set right ≡ flags_set right' = same.2 in cc)
+    λ e. sym (outs-CompareKind kind (flags_set left) (flags_set right)) ∙ ap out-Node (sym before ∙ e ∙ after) ∙ outs-CompareKind kind' (flags_set left') (flags_set right') in (
+      λ e. let same : Node-F.CompareKind kind (flags_set left) (flags_set right) ≡ Node-F.CompareKind kind' (flags_set left') (flags_set right') = layers e in (cc, cc, cc),
+      λ same. let p : kind ≡ kind' = same.0 in let q : flags_set left ≡ flags_set left' = same.1 in let r : flags_set right ≡ flags_set right' = same.2 in cc,
+    )
 
 pub alike_unary : {node node' : Node} (kind kind' : OpUnary) (right right' : Node) → node ≡ UnaryKind kind right → node' ≡ UnaryKind kind' right' → (flags_set node ≡ flags_set node') ↔ ((kind ≡ kind') × (flags_set right ≡ flags_set right'))
 alike_unary {node} {node'} kind kind' right right' is is' =
     let before : flags_set node ≡ UnaryKind kind (flags_set right) = ap flags_set is ∙ flagged_unary kind right in
     let after : flags_set node' ≡ UnaryKind kind' (flags_set right') = ap flags_set is' ∙ flagged_unary kind' right' in
     let layers : flags_set node ≡ flags_set node' → Node-F.UnaryKind kind (flags_set right) ≡ Node-F.UnaryKind kind' (flags_set right') =
-          λ e. sym (outs-UnaryKind kind (flags_set right)) ∙ ap out-Node (sym before ∙ e ∙ after) ∙ outs-UnaryKind kind' (flags_set right') in
-    (λ e. let same : Node-F.UnaryKind kind (flags_set right) ≡ Node-F.UnaryKind kind' (flags_set right') = layers e in (cc, cc),
-     λ same. let p : kind ≡ kind' = same.0 in let q : flags_set right ≡ flags_set right' = same.1 in cc)
+    λ e. sym (outs-UnaryKind kind (flags_set right)) ∙ ap out-Node (sym before ∙ e ∙ after) ∙ outs-UnaryKind kind' (flags_set right') in (
+      λ e. let same : Node-F.UnaryKind kind (flags_set right) ≡ Node-F.UnaryKind kind' (flags_set right') = layers e in (cc, cc),
+      λ same. let p : kind ≡ kind' = same.0 in let q : flags_set right ≡ flags_set right' = same.1 in cc,
+    )
 
 pub alike_spill : {node node' : Node} (child child' : Node) → node ≡ SpillRangeOperator child → node' ≡ SpillRangeOperator child' → (flags_set node ≡ flags_set node') ↔ (flags_set child ≡ flags_set child')
 alike_spill {node} {node'} child child' is is' =
     let before : flags_set node ≡ SpillRangeOperator (flags_set child) = ap flags_set is ∙ flagged_spill child in
     let after : flags_set node' ≡ SpillRangeOperator (flags_set child') = ap flags_set is' ∙ flagged_spill child' in
     let layers : flags_set node ≡ flags_set node' → Node-F.SpillRangeOperator (flags_set child) ≡ Node-F.SpillRangeOperator (flags_set child') =
-          λ e. sym (outs-SpillRangeOperator (flags_set child)) ∙ ap out-Node (sym before ∙ e ∙ after) ∙ outs-SpillRangeOperator (flags_set child') in
-    (λ e. let same : Node-F.SpillRangeOperator (flags_set child) ≡ Node-F.SpillRangeOperator (flags_set child') = layers e in cc,
-     λ same.  cc)
+    λ e. sym (outs-SpillRangeOperator (flags_set child)) ∙ ap out-Node (sym before ∙ e ∙ after) ∙ outs-SpillRangeOperator (flags_set child') in (
+      λ e. let same : Node-F.SpillRangeOperator (flags_set child) ≡ Node-F.SpillRangeOperator (flags_set child') = layers e in cc,
+      λ same. cc,
+    )
 
 pub alike_definition : {node node' : Node} (parameters parameters' : List (List ℕ)) (body body' : Node) → node ≡ LambdaDefKind parameters body → node' ≡ LambdaDefKind parameters' body' → (flags_set node ≡ flags_set node') ↔ ((parameters ≡ parameters') × (flags_set body ≡ flags_set body'))
 alike_definition {node} {node'} parameters parameters' body body' is is' =
     let before : flags_set node ≡ LambdaDefKind parameters (flags_set body) = ap flags_set is ∙ flagged_definition parameters body in
     let after : flags_set node' ≡ LambdaDefKind parameters' (flags_set body') = ap flags_set is' ∙ flagged_definition parameters' body' in
     let layers : flags_set node ≡ flags_set node' → Node-F.LambdaDefKind parameters (flags_set body) ≡ Node-F.LambdaDefKind parameters' (flags_set body') =
-          λ e. sym (outs-LambdaDefKind parameters (flags_set body)) ∙ ap out-Node (sym before ∙ e ∙ after) ∙ outs-LambdaDefKind parameters' (flags_set body') in
-    (λ e. let same : Node-F.LambdaDefKind parameters (flags_set body) ≡ Node-F.LambdaDefKind parameters' (flags_set body') = layers e in (cc, cc),
-     λ same. let p : parameters ≡ parameters' = same.0 in let q : flags_set body ≡ flags_set body' = same.1 in cc)
+    λ e. sym (outs-LambdaDefKind parameters (flags_set body)) ∙ ap out-Node (sym before ∙ e ∙ after) ∙ outs-LambdaDefKind parameters' (flags_set body') in (
+      λ e. let same : Node-F.LambdaDefKind parameters (flags_set body) ≡ Node-F.LambdaDefKind parameters' (flags_set body') = layers e in (cc, cc),
+      λ same. let p : parameters ≡ parameters' = same.0 in let q : flags_set body ≡ flags_set body' = same.1 in cc,
+    )
 
 pub alike_call : {node node' : Node} (kind kind' : Function) (args args' : List Node) → node ≡ FunctionKind kind args → node' ≡ FunctionKind kind' args' → (flags_set node ≡ flags_set node') ↔ ((kind ≡ kind') × (map flags_set args ≡ map flags_set args'))
 alike_call {node} {node'} kind kind' args args' is is' =
     let before : flags_set node ≡ FunctionKind kind (map flags_set args) = ap flags_set is ∙ flagged_call kind args in
     let after : flags_set node' ≡ FunctionKind kind' (map flags_set args') = ap flags_set is' ∙ flagged_call kind' args' in
     let layers : flags_set node ≡ flags_set node' → Node-F.FunctionKind kind (map flags_set args) ≡ Node-F.FunctionKind kind' (map flags_set args') =
-          λ e. sym (outs-FunctionKind kind (map flags_set args)) ∙ ap out-Node (sym before ∙ e ∙ after) ∙ outs-FunctionKind kind' (map flags_set args') in
-    (λ e. let same : Node-F.FunctionKind kind (map flags_set args) ≡ Node-F.FunctionKind kind' (map flags_set args') = layers e in (cc, cc),
-     λ same. let p : kind ≡ kind' = same.0 in let q : map flags_set args ≡ map flags_set args' = same.1 in cc)
+    λ e. sym (outs-FunctionKind kind (map flags_set args)) ∙ ap out-Node (sym before ∙ e ∙ after) ∙ outs-FunctionKind kind' (map flags_set args') in (
+      λ e. let same : Node-F.FunctionKind kind (map flags_set args) ≡ Node-F.FunctionKind kind' (map flags_set args') = layers e in (cc, cc),
+      λ same. let p : kind ≡ kind' = same.0 in let q : map flags_set args ≡ map flags_set args' = same.1 in cc,
+    )
 
 pub alike_named_call : {node node' : Node} (name name' : List ℕ) (id id' : Option ℕ) (args args' : List Node) → node ≡ NamedFunctionKind name id args → node' ≡ NamedFunctionKind name' id' args' → (flags_set node ≡ flags_set node') ↔ ((name ≡ name') × (id ≡ id') × (map flags_set args ≡ map flags_set args'))
 alike_named_call {node} {node'} name name' id id' args args' is is' =
     let before : flags_set node ≡ NamedFunctionKind name id (map flags_set args) = ap flags_set is ∙ flagged_named_call name id args in
     let after : flags_set node' ≡ NamedFunctionKind name' id' (map flags_set args') = ap flags_set is' ∙ flagged_named_call name' id' args' in
     let layers : flags_set node ≡ flags_set node' → Node-F.NamedFunctionKind name id (map flags_set args) ≡ Node-F.NamedFunctionKind name' id' (map flags_set args') =
-          λ e. sym (outs-NamedFunctionKind name id (map flags_set args)) ∙ ap out-Node (sym before ∙ e ∙ after) ∙ outs-NamedFunctionKind name' id' (map flags_set args') in
-    (λ e. let same : Node-F.NamedFunctionKind name id (map flags_set args) ≡ Node-F.NamedFunctionKind name' id' (map flags_set args') = layers e in (cc, cc, cc),
-     λ same. let p : name ≡ name' = same.0 in let q : id ≡ id' = same.1 in let r : map flags_set args ≡ map flags_set args' = same.2 in cc)
+    λ e. sym (outs-NamedFunctionKind name id (map flags_set args)) ∙ ap out-Node (sym before ∙ e ∙ after) ∙ outs-NamedFunctionKind name' id' (map flags_set args') in (
+      λ e. let same : Node-F.NamedFunctionKind name id (map flags_set args) ≡ Node-F.NamedFunctionKind name' id' (map flags_set args') = layers e in (cc, cc, cc),
+      λ same. let p : name ≡ name' = same.0 in let q : id ≡ id' = same.1 in let r : map flags_set args ≡ map flags_set args' = same.2 in cc,
+    )
 
 pub alike_lambda_call : {node node' : Node} (lambda lambda' : Node) (args args' : List Node) → node ≡ LambdaCallKind lambda args → node' ≡ LambdaCallKind lambda' args' → (flags_set node ≡ flags_set node') ↔ ((flags_set lambda ≡ flags_set lambda') × (map flags_set args ≡ map flags_set args'))
 alike_lambda_call {node} {node'} lambda lambda' args args' is is' =
     let before : flags_set node ≡ LambdaCallKind (flags_set lambda) (map flags_set args) = ap flags_set is ∙ flagged_lambda_call lambda args in
     let after : flags_set node' ≡ LambdaCallKind (flags_set lambda') (map flags_set args') = ap flags_set is' ∙ flagged_lambda_call lambda' args' in
     let layers : flags_set node ≡ flags_set node' → Node-F.LambdaCallKind (flags_set lambda) (map flags_set args) ≡ Node-F.LambdaCallKind (flags_set lambda') (map flags_set args') =
-          λ e. sym (outs-LambdaCallKind (flags_set lambda) (map flags_set args)) ∙ ap out-Node (sym before ∙ e ∙ after) ∙ outs-LambdaCallKind (flags_set lambda') (map flags_set args') in
-    (λ e. let same : Node-F.LambdaCallKind (flags_set lambda) (map flags_set args) ≡ Node-F.LambdaCallKind (flags_set lambda') (map flags_set args') = layers e in (cc, cc),
-     λ same. let p : flags_set lambda ≡ flags_set lambda' = same.0 in let q : map flags_set args ≡ map flags_set args' = same.1 in cc)
+    λ e. sym (outs-LambdaCallKind (flags_set lambda) (map flags_set args)) ∙ ap out-Node (sym before ∙ e ∙ after) ∙ outs-LambdaCallKind (flags_set lambda') (map flags_set args') in (
+      λ e. let same : Node-F.LambdaCallKind (flags_set lambda) (map flags_set args) ≡ Node-F.LambdaCallKind (flags_set lambda') (map flags_set args') = layers e in (cc, cc),
+      λ same. let p : flags_set lambda ≡ flags_set lambda' = same.0 in let q : map flags_set args ≡ map flags_set args' = same.1 in cc,
+    )
 
 pub alike_at : {node node' : Node} (automatic automatic' : Bool) (child child' : Node) → node ≡ ImplicitIntersection automatic child → node' ≡ ImplicitIntersection automatic' child' → (flags_set node ≡ flags_set node') ↔ (flags_set child ≡ flags_set child')
 alike_at {node} {node'} automatic automatic' child child' is is' =
     let before : flags_set node ≡ ImplicitIntersection true (flags_set child) = ap flags_set is ∙ flagged_at automatic child in
     let after : flags_set node' ≡ ImplicitIntersection true (flags_set child') = ap flags_set is' ∙ flagged_at automatic' child' in
     let layers : flags_set node ≡ flags_set node' → Node-F.ImplicitIntersection true (flags_set child) ≡ Node-F.ImplicitIntersection true (flags_set child') =
-          λ e. sym (outs-ImplicitIntersection true (flags_set child)) ∙ ap out-Node (sym before ∙ e ∙ after) ∙ outs-ImplicitIntersection true (flags_set child') in
-    (λ e. let same : Node-F.ImplicitIntersection true (flags_set child) ≡ Node-F.ImplicitIntersection true (flags_set child') = layers e in cc,
-     λ same.  cc)
+    λ e. sym (outs-ImplicitIntersection true (flags_set child)) ∙ ap out-Node (sym before ∙ e ∙ after) ∙ outs-ImplicitIntersection true (flags_set child') in (
+      λ e. let same : Node-F.ImplicitIntersection true (flags_set child) ≡ Node-F.ImplicitIntersection true (flags_set child') = layers e in cc,
+      λ same. cc,
+    )
 
-abbrev above : Node-F Node → Node-F Node
+abbrev pub above : Node-F Node → Node-F Node
 above node = set_flag (map-Node Node Node flags_set node)
 
 flagged : (node : Node) → flags_set node ≡ roll-Node (above (out-Node node))
@@ -243,10 +256,11 @@ found (Node-F.ImplicitIntersection automatic child) h = absurd h
 
 pub childless : (node other : Node) → IsChildless node → (node ≡ other) ↔ (flags_set node ≡ flags_set other)
 childless node other h =
-    let own : flags_set node ≡ node = flagged node ∙ ap roll-Node (given (out-Node node) h) ∙ roll-out-Node node in
-    (λ e. ap flags_set e,
-     λ e. let layer : out-Node node ≡ above (out-Node other) = ap out-Node (sym own ∙ e ∙ flagged other) ∙ out-roll-Node (above (out-Node other)) in
-          sym own ∙ e ∙ flagged other ∙ ap roll-Node (found (out-Node other) (subst childless_layer layer h)) ∙ roll-out-Node other)
+    let own : flags_set node ≡ node = flagged node ∙ ap roll-Node (given (out-Node node) h) ∙ roll-out-Node node in (
+      λ e. ap flags_set e,
+      λ e. let layer : out-Node node ≡ above (out-Node other) = ap out-Node (sym own ∙ e ∙ flagged other) ∙ out-roll-Node (above (out-Node other)) in
+          sym own ∙ e ∙ flagged other ∙ ap roll-Node (found (out-Node other) (subst childless_layer layer h)) ∙ roll-out-Node other,
+    )
 
 pub seen : {tested whole first : Type 0} → tested ↔ first → whole ↔ first → tested ↔ whole
 seen t w = (λ h. w.1 (t.0 h), λ h. t.1 (w.0 h))

@@ -14,12 +14,10 @@ impl Node {
         ensures { IsTrue result ↔ (flags_set self.now ≡ flags_set other.now) }
     {
         match self {
-            Node::OpRangeKind { .. }
-            | Node::OpConcatenateKind { .. }
-            | Node::OpPowerKind { .. } => same_operator(self, other),
-            Node::OpSumKind { .. }
-            | Node::OpProductKind { .. }
-            | Node::CompareKind { .. } => same_operator_of_kind(self, other),
+            Node::OpRangeKind { .. } | Node::OpConcatenateKind { .. } | Node::OpPowerKind { .. } =>
+                same_operator(self, other),
+            Node::OpSumKind { .. } | Node::OpProductKind { .. } | Node::CompareKind { .. } =>
+                same_operator_of_kind(self, other),
             Node::FunctionKind { .. }
             | Node::NamedFunctionKind { .. }
             | Node::LambdaCallKind { .. } => same_call(self, other),
@@ -86,10 +84,7 @@ fn same_operator_of_kind(operator: &Node, other: &Node) -> bool
                 left: other_left,
                 right: other_right,
             },
-        ) => {
-            *kind == *other_kind
-                && same_sides(left, right, other_left, other_right)
-        }
+        ) => { *kind == *other_kind && same_sides(left, right, other_left, other_right) }
         (
             Node::OpProductKind { kind, left, right },
             Node::OpProductKind {
@@ -97,10 +92,7 @@ fn same_operator_of_kind(operator: &Node, other: &Node) -> bool
                 left: other_left,
                 right: other_right,
             },
-        ) => {
-            *kind == *other_kind
-                && same_sides(left, right, other_left, other_right)
-        }
+        ) => { *kind == *other_kind && same_sides(left, right, other_left, other_right) }
         (
             Node::CompareKind { kind, left, right },
             Node::CompareKind {
@@ -108,10 +100,7 @@ fn same_operator_of_kind(operator: &Node, other: &Node) -> bool
                 left: other_left,
                 right: other_right,
             },
-        ) => {
-            *kind == *other_kind
-                && same_sides(left, right, other_left, other_right)
-        }
+        ) => { *kind == *other_kind && same_sides(left, right, other_left, other_right) }
         _ => false,
     }
 }
@@ -146,7 +135,8 @@ fn same_wrapper(wrapper: &Node, other: &Node) -> bool
         (
             Node::ImplicitIntersection { child, .. },
             Node::ImplicitIntersection {
-                child: other_child, ..
+                child: other_child,
+                ..
             },
         ) => child.get().same_but_flags(other_child.get()),
         (Node::SpillRangeOperator { child }, Node::SpillRangeOperator { child: other_child }) => {
@@ -185,7 +175,8 @@ fn same_call(call: &Node, other: &Node) -> bool
                 args: other_args,
             },
         ) => {
-            is_named(name, *id, other_name, *other_id) && same_nodes(args.as_slice(), other_args.as_slice())
+            is_named(name, *id, other_name, *other_id)
+                && same_nodes(args.as_slice(), other_args.as_slice())
         }
         (
             Node::LambdaCallKind { lambda, args },
@@ -193,7 +184,10 @@ fn same_call(call: &Node, other: &Node) -> bool
                 lambda: other_lambda,
                 args: other_args,
             },
-        ) => { lambda.get().same_but_flags(other_lambda.get()) && same_nodes(args.as_slice(), other_args.as_slice()) }
+        ) => {
+            lambda.get().same_but_flags(other_lambda.get())
+                && same_nodes(args.as_slice(), other_args.as_slice())
+        }
         _ => false,
     }
 }

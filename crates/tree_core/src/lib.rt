@@ -4,7 +4,7 @@
 pub use array::{ArrayNode, Rows};
 pub use call_core::{Function, Plain, Steps};
 pub use error::Error;
-pub use laws::runs_fix_the_tree;
+pub use laws::{alike_by_flags, runs_fix_the_tree};
 pub use memory::Memory;
 pub use names::{DefinedNameS, Texts};
 pub use node::{Node, Nodes};

@@ -16,22 +16,22 @@ pub flags::same_operator-returns-in-OpPowerKind-OpPowerKind : goal.flags::same_o
 flags::same_operator-returns-in-OpPowerKind-OpPowerKind t c = seen c.same_sides-in-OpPowerKind-OpPowerKind.ensures (alike_power c.in-OpPowerKind-OpPowerKind.left c.in-OpPowerKind-OpPowerKind.other_left c.in-OpPowerKind-OpPowerKind.right c.in-OpPowerKind-OpPowerKind.other_right c.in-OpPowerKind-OpPowerKind.is-0 c.in-OpPowerKind-OpPowerKind.is-1)
 
 pub flags::same_operator_of_kind-returns-then-eq : goal.flags::same_operator_of_kind-returns-then-eq
-flags::same_operator_of_kind-returns-then-eq t c = 
+flags::same_operator_of_kind-returns-then-eq t c =
     let kinds : c.in-OpSumKind-OpSumKind.kind ≡ c.in-OpSumKind-OpSumKind.other_kind = search rules in
     seen_sides kinds c.same_sides.ensures
-      (alike_sum c.in-OpSumKind-OpSumKind.kind c.in-OpSumKind-OpSumKind.other_kind c.in-OpSumKind-OpSumKind.left c.in-OpSumKind-OpSumKind.other_left c.in-OpSumKind-OpSumKind.right c.in-OpSumKind-OpSumKind.other_right c.in-OpSumKind-OpSumKind.is-0 c.in-OpSumKind-OpSumKind.is-1)
+    (alike_sum c.in-OpSumKind-OpSumKind.kind c.in-OpSumKind-OpSumKind.other_kind c.in-OpSumKind-OpSumKind.left c.in-OpSumKind-OpSumKind.other_left c.in-OpSumKind-OpSumKind.right c.in-OpSumKind-OpSumKind.other_right c.in-OpSumKind-OpSumKind.is-0 c.in-OpSumKind-OpSumKind.is-1)
 
 pub flags::same_operator_of_kind-returns-then-eq-2 : goal.flags::same_operator_of_kind-returns-then-eq-2
-flags::same_operator_of_kind-returns-then-eq-2 t c = 
+flags::same_operator_of_kind-returns-then-eq-2 t c =
     let kinds : c.in-OpProductKind-OpProductKind.kind ≡ c.in-OpProductKind-OpProductKind.other_kind = search rules in
     seen_sides kinds c.same_sides-then-eq-2.ensures
-      (alike_product c.in-OpProductKind-OpProductKind.kind c.in-OpProductKind-OpProductKind.other_kind c.in-OpProductKind-OpProductKind.left c.in-OpProductKind-OpProductKind.other_left c.in-OpProductKind-OpProductKind.right c.in-OpProductKind-OpProductKind.other_right c.in-OpProductKind-OpProductKind.is-0 c.in-OpProductKind-OpProductKind.is-1)
+    (alike_product c.in-OpProductKind-OpProductKind.kind c.in-OpProductKind-OpProductKind.other_kind c.in-OpProductKind-OpProductKind.left c.in-OpProductKind-OpProductKind.other_left c.in-OpProductKind-OpProductKind.right c.in-OpProductKind-OpProductKind.other_right c.in-OpProductKind-OpProductKind.is-0 c.in-OpProductKind-OpProductKind.is-1)
 
 pub flags::same_operator_of_kind-returns-then-eq-3 : goal.flags::same_operator_of_kind-returns-then-eq-3
-flags::same_operator_of_kind-returns-then-eq-3 t c = 
+flags::same_operator_of_kind-returns-then-eq-3 t c =
     let kinds : c.in-CompareKind-CompareKind.kind ≡ c.in-CompareKind-CompareKind.other_kind = search rules in
     seen_sides kinds c.same_sides-then-eq-3.ensures
-      (alike_comparison c.in-CompareKind-CompareKind.kind c.in-CompareKind-CompareKind.other_kind c.in-CompareKind-CompareKind.left c.in-CompareKind-CompareKind.other_left c.in-CompareKind-CompareKind.right c.in-CompareKind-CompareKind.other_right c.in-CompareKind-CompareKind.is-0 c.in-CompareKind-CompareKind.is-1)
+    (alike_comparison c.in-CompareKind-CompareKind.kind c.in-CompareKind-CompareKind.other_kind c.in-CompareKind-CompareKind.left c.in-CompareKind-CompareKind.other_left c.in-CompareKind-CompareKind.right c.in-CompareKind-CompareKind.other_right c.in-CompareKind-CompareKind.is-0 c.in-CompareKind-CompareKind.is-1)
 
 pub flags::same_call-returns-then-eq : goal.flags::same_call-returns-then-eq
 flags::same_call-returns-then-eq t c = seen_rest (c.eq.ensures.same_value.0 c.if-eq.true) (moved (map flags_set) c.as_slice.ensures c.as_slice-then-eq.ensures c.same_nodes.ensures)
@@ -53,10 +53,10 @@ flags::same_call-returns-else-same_but_flags t c = seen_not c.same_but_flags.res
     (alike_lambda_call c.in-LambdaCallKind-LambdaCallKind.lambda c.in-LambdaCallKind-LambdaCallKind.other_lambda c.in-LambdaCallKind-LambdaCallKind.args c.in-LambdaCallKind-LambdaCallKind.other_args c.in-LambdaCallKind-LambdaCallKind.is-0 c.in-LambdaCallKind-LambdaCallKind.is-1)
 
 pub flags::same_wrapper-returns-then-eq : goal.flags::same_wrapper-returns-then-eq
-flags::same_wrapper-returns-then-eq t c = 
+flags::same_wrapper-returns-then-eq t c =
     let kinds : c.in-UnaryKind-UnaryKind.kind ≡ c.in-UnaryKind-UnaryKind.other_kind = search rules in
     seen_rest kinds (moved flags_set c.get.ensures c.get-then-eq.ensures c.same_but_flags.ensures)
-      (alike_unary c.in-UnaryKind-UnaryKind.kind c.in-UnaryKind-UnaryKind.other_kind c.in-UnaryKind-UnaryKind.right c.in-UnaryKind-UnaryKind.other_right c.in-UnaryKind-UnaryKind.is-0 c.in-UnaryKind-UnaryKind.is-1)
+    (alike_unary c.in-UnaryKind-UnaryKind.kind c.in-UnaryKind-UnaryKind.other_kind c.in-UnaryKind-UnaryKind.right c.in-UnaryKind-UnaryKind.other_right c.in-UnaryKind-UnaryKind.is-0 c.in-UnaryKind-UnaryKind.is-1)
 
 pub flags::same_wrapper-returns-in-ImplicitIntersection-ImplicitIntersection : goal.flags::same_wrapper-returns-in-ImplicitIntersection-ImplicitIntersection
 flags::same_wrapper-returns-in-ImplicitIntersection-ImplicitIntersection t c = seen (moved flags_set c.get-in-ImplicitIntersection-ImplicitIntersection.ensures c.get-in-ImplicitIntersection-ImplicitIntersection-2.ensures c.same_but_flags-in-ImplicitIntersection-ImplicitIntersection.ensures)
@@ -71,6 +71,9 @@ flags::same_wrapper-returns-then-is t c = seen_rest (c.is.ensures.0 c.if-is.true
     (alike_definition c.in-LambdaDefKind-LambdaDefKind.parameters c.in-LambdaDefKind-LambdaDefKind.other_parameters c.in-LambdaDefKind-LambdaDefKind.body c.in-LambdaDefKind-LambdaDefKind.other_body c.in-LambdaDefKind-LambdaDefKind.is-0 c.in-LambdaDefKind-LambdaDefKind.is-1)
 
 pub flags::same_nodes-returns-then-not-same_but_flags : goal.flags::same_nodes-returns-then-not-same_but_flags
-flags::same_nodes-returns-then-not-same_but_flags t c = (λ h. cc, λ e. sym c.if-not-same_but_flags.true ∙ c.same_but_flags.ensures.1
-    (alike_at_index flags_set c.args.nodes.now c.args.others.now c.loop-index.index c.index-nodes-index.result c.index-others-index.result
-      (omega arith) (omega arith) c.index-nodes-index.is c.index-others-index.is e))
+flags::same_nodes-returns-then-not-same_but_flags t c = (
+  λ h. cc,
+  λ e. sym c.if-not-same_but_flags.true ∙ c.same_but_flags.ensures.1
+      (alike_at_index flags_set c.args.nodes.now c.args.others.now c.loop-index.index c.index-nodes-index.result c.index-others-index.result
+      (omega arith) (omega arith) c.index-nodes-index.is c.index-others-index.is e),
+)
