@@ -25,4 +25,6 @@ mod node;
 mod operator;
 mod position;
 mod same_reference;
+#[cfg(test)]
+mod tests;
 mod text;
