@@ -1,2 +1,5 @@
 pub mod Places
 pub mod Lists
+pub mod Flagged
+pub mod Readback
+pub mod AlikeTrees

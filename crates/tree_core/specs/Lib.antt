@@ -5,3 +5,4 @@ pub mod Formula
 pub mod ErrorName
 pub mod Variant
 pub mod Count
+pub mod Flags

@@ -6,6 +6,7 @@
 --   IsOperatorOfKind   it is one of several of its sort between two sides
 --   IsCall      it has a list of arguments
 --   IsWrapper   it has one child, alone
+--   IsChildless it has no children
 use Rattle.tree_core.specs.declared.node.Node.{Node, out-Node}
 use Rattle.tree_core.specs.declared.node.Node.TheOpen.{Node-F}
 
@@ -96,3 +97,23 @@ IsWrapper node = wrapper_layer (out-Node node)
     wrapper_layer (Node-F.SpillRangeOperator child) = Unit {0}
     wrapper_layer (Node-F.LambdaDefKind parameters body) = Unit {0}
     wrapper_layer _ = ⊥
+
+abbrev pub childless_layer : Node-F Node → Type 0
+childless_layer (Node-F.BooleanKind b) = Unit {0}
+childless_layer (Node-F.NumberKind n) = Unit {0}
+childless_layer (Node-F.StringKind text) = Unit {0}
+childless_layer (Node-F.ErrorKind e) = Unit {0}
+childless_layer Node-F.EmptyArgKind = Unit {0}
+childless_layer (Node-F.ReferenceKind name index absolute_row absolute_column row column) = Unit {0}
+childless_layer (Node-F.RangeKind name index absolute_row1 absolute_column1 row1 column1 absolute_row2 absolute_column2 row2 column2) = Unit {0}
+childless_layer (Node-F.WrongReferenceKind name absolute_row absolute_column row column) = Unit {0}
+childless_layer (Node-F.WrongRangeKind name absolute_row1 absolute_column1 row1 column1 absolute_row2 absolute_column2 row2 column2) = Unit {0}
+childless_layer (Node-F.ArrayKind rows) = Unit {0}
+childless_layer (Node-F.DefinedNameKind name) = Unit {0}
+childless_layer (Node-F.TableNameKind name) = Unit {0}
+childless_layer (Node-F.NamedVariableKind name id) = Unit {0}
+childless_layer (Node-F.ParseErrorKind formula message position) = Unit {0}
+childless_layer _ = ⊥
+
+abbrev pub IsChildless : Node → Type 0
+IsChildless node = childless_layer (out-Node node)

@@ -48,7 +48,8 @@ impl Node {
             | Node::OpSumKind { left, right, .. }
             | Node::OpProductKind { left, right, .. }
             | Node::OpPowerKind { left, right }
-            | Node::CompareKind { left, right, .. } => left.get().call_count() + right.get().call_count(),
+            | Node::CompareKind { left, right, .. } => left.get().call_count()
+                + right.get().call_count(),
             Node::UnaryKind { right: child, .. }
             | Node::ImplicitIntersection { child, .. }
             | Node::SpillRangeOperator { child }
@@ -75,7 +76,8 @@ impl Node {
             | Node::OpSumKind { left, right, .. }
             | Node::OpProductKind { left, right, .. }
             | Node::OpPowerKind { left, right }
-            | Node::CompareKind { left, right, .. } => left.get().at_count() + right.get().at_count(),
+            | Node::CompareKind { left, right, .. } => left.get().at_count()
+                + right.get().at_count(),
             Node::ImplicitIntersection { child, .. } => 1 + child.get().at_count(),
             Node::UnaryKind { right: child, .. }
             | Node::SpillRangeOperator { child }

@@ -22,7 +22,7 @@ impl PartialEq for Node {
 }
 
 #[cycle(equality)]
-fn is(node: &Node, other: &Node) -> bool
+pub(crate) fn is(node: &Node, other: &Node) -> bool
     ensures { IsTrue result ↔ (node.now ≡ other.now) }
 {
     match node {

@@ -4,7 +4,7 @@
 pub use array::{ArrayNode, Rows};
 pub use call_core::{Function, Plain, Steps};
 pub use error::Error;
-pub use laws::runs_fix_the_tree;
+pub use laws::{alike_by_flags, runs_fix_the_tree};
 pub use memory::Memory;
 pub use names::{DefinedNameS, Texts};
 pub use node::{Node, Nodes};
@@ -17,6 +17,7 @@ mod clone;
 mod count;
 mod equality;
 mod error;
+mod flags;
 mod laws;
 mod memory;
 mod names;
@@ -24,4 +25,6 @@ mod node;
 mod operator;
 mod position;
 mod same_reference;
+#[cfg(test)]
+mod tests;
 mod text;
