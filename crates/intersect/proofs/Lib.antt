@@ -4,3 +4,5 @@ pub mod Classes
 pub mod Endings
 pub mod Exists
 pub mod Reach
+pub mod Shows
+pub mod Settle

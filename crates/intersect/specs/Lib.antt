@@ -7,3 +7,7 @@ pub mod RangeText
 pub mod Ending
 pub mod After
 pub mod ImportRule
+pub mod Settled
+pub mod Dropped
+pub mod Exported
+pub mod Drops

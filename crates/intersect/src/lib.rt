@@ -6,7 +6,7 @@
 #![tactic(auto)]
 
 pub use import::{add_implicit_intersection, imported};
-pub use laws::import_is_a_function;
+pub use laws::{import_is_a_function, import_settles};
 pub use range_text::is_range_reference;
 
 mod context;
@@ -15,3 +15,4 @@ mod laws;
 mod range_text;
 mod visit;
 mod visited;
+mod without;

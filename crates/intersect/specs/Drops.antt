@@ -1,0 +1,48 @@
+-- The formulas with one `@` fewer.
+--   run_drops   the runs with one flag fewer
+--   drops       all formulas with one `@` fewer, but those whose dropped `@` stands inside of a node that import does not enter: in
+--               the order of their dropped `@`s, from the front of the formula
+--   all_drops   so of some formulas
+--   IsWithout   what is found of so many drops at a number from 0: the formula, or how far the number is beyond
+--   IsWithoutAll  so of the drops of some formulas
+--   Over, OverAll  what was found, as a part of a whole
+use Rattle.std.specs.Prelude.{◌≡◌, ℕ, ◌+◌, List, [], ◌∷◌, ◌++◌, length, map, if◌then◌else◌, slice_get, Some}
+use Rattle.tree_core.specs.Tree.{Run, Tree, tree, Trees, none, more, forest}
+use Rattle.tree_core.specs.Formula.{tree_of}
+use Rattle.intersect.specs.ImportRule.{is_closed}
+use Rattle.intersect.specs.declared.without.Without.{Without}
+use Rattle.intersect.specs.declared.without.Without.TheVariants.{Formula, Beyond}
+use Rattle.intersect.specs.declared.without.WithoutAll.{WithoutAll}
+use Rattle.intersect.specs.declared.without.WithoutAll.TheVariants.{Formulas, Beyond as BeyondAll}
+
+abbrev pub run_drops : Run → List Run
+run_drops [] = []
+run_drops (flag ∷ run) = run ∷ map (λ r. flag ∷ r) (run_drops run)
+
+abbrev mutual
+  pub drops : Tree → List Tree
+  drops (tree run label ts) = map (λ r. tree r label ts) (run_drops run) ++ (if is_closed label then [] else map (λ us. tree run label us) (all_drops ts))
+
+  pub all_drops : Trees → List Trees
+  all_drops none = []
+  all_drops (more t ts) = map (λ u. more u ts) (drops t) ++ map (λ us. more t us) (all_drops ts)
+
+abbrev pub IsWithout : List Tree → ℕ → Without → Type 0
+IsWithout all number (Formula node) = slice_get all number ≡ Some (tree_of node)
+IsWithout all number (Beyond left) = number ≡ length all + left
+
+abbrev pub IsWithoutAll : List Trees → ℕ → WithoutAll → Type 0
+IsWithoutAll all number (Formulas nodes) = slice_get all number ≡ Some (forest (map tree_of nodes))
+IsWithoutAll all number (BeyondAll left) = number ≡ length all + left
+
+abbrev pub Over : (Tree → Tree) → Without → Without → Type 0
+Over whole (Formula part) (Formula node) = tree_of node ≡ whole (tree_of part)
+Over whole (Formula part) (Beyond left) = ⊥
+Over whole (Beyond left) (Formula node) = ⊥
+Over whole (Beyond left) (Beyond still) = left ≡ still
+
+abbrev pub OverAll : (Trees → Tree) → WithoutAll → Without → Type 0
+OverAll whole (Formulas parts) (Formula node) = tree_of node ≡ whole (forest (map tree_of parts))
+OverAll whole (Formulas parts) (Beyond left) = ⊥
+OverAll whole (BeyondAll left) (Formula node) = ⊥
+OverAll whole (BeyondAll left) (Beyond still) = left ≡ still
