@@ -6,3 +6,4 @@ pub mod Exists
 pub mod Reach
 pub mod Shows
 pub mod Settle
+pub mod Withouts

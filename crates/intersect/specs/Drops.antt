@@ -10,10 +10,10 @@ use Rattle.std.specs.Prelude.{◌≡◌, ℕ, ◌+◌, List, [], ◌∷◌, ◌+
 use Rattle.tree_core.specs.Tree.{Run, Tree, tree, Trees, none, more, forest}
 use Rattle.tree_core.specs.Formula.{tree_of}
 use Rattle.intersect.specs.ImportRule.{is_closed}
-use Rattle.intersect.specs.declared.without.Without.{Without}
-use Rattle.intersect.specs.declared.without.Without.TheVariants.{Formula, Beyond}
-use Rattle.intersect.specs.declared.without.WithoutAll.{WithoutAll}
-use Rattle.intersect.specs.declared.without.WithoutAll.TheVariants.{Formulas, Beyond as BeyondAll}
+use Rattle.intersect.specs.declared.without.Trial.{Trial}
+use Rattle.intersect.specs.declared.without.Trial.TheVariants.{Formula, Beyond}
+use Rattle.intersect.specs.declared.without.TrialAll.{TrialAll}
+use Rattle.intersect.specs.declared.without.TrialAll.TheVariants.{Formulas, Beyond as BeyondAll}
 
 abbrev pub run_drops : Run → List Run
 run_drops [] = []
@@ -27,21 +27,21 @@ abbrev mutual
   all_drops none = []
   all_drops (more t ts) = map (λ u. more u ts) (drops t) ++ map (λ us. more t us) (all_drops ts)
 
-abbrev pub IsWithout : List Tree → ℕ → Without → Type 0
+abbrev pub IsWithout : List Tree → ℕ → Trial → Type 0
 IsWithout all number (Formula node) = slice_get all number ≡ Some (tree_of node)
 IsWithout all number (Beyond left) = number ≡ length all + left
 
-abbrev pub IsWithoutAll : List Trees → ℕ → WithoutAll → Type 0
+abbrev pub IsWithoutAll : List Trees → ℕ → TrialAll → Type 0
 IsWithoutAll all number (Formulas nodes) = slice_get all number ≡ Some (forest (map tree_of nodes))
 IsWithoutAll all number (BeyondAll left) = number ≡ length all + left
 
-abbrev pub Over : (Tree → Tree) → Without → Without → Type 0
+abbrev pub Over : (Tree → Tree) → Trial → Trial → Type 0
 Over whole (Formula part) (Formula node) = tree_of node ≡ whole (tree_of part)
 Over whole (Formula part) (Beyond left) = ⊥
 Over whole (Beyond left) (Formula node) = ⊥
 Over whole (Beyond left) (Beyond still) = left ≡ still
 
-abbrev pub OverAll : (Trees → Tree) → WithoutAll → Without → Type 0
+abbrev pub OverAll : (Trees → Tree) → TrialAll → Trial → Type 0
 OverAll whole (Formulas parts) (Formula node) = tree_of node ≡ whole (forest (map tree_of parts))
 OverAll whole (Formulas parts) (Beyond left) = ⊥
 OverAll whole (BeyondAll left) (Formula node) = ⊥

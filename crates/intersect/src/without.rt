@@ -1,4 +1,4 @@
-ghost use Rattle.std.specs.Prelude.{◌≡◌, ◌<◌, [], IfOk, map};
+ghost use Rattle.std.specs.Prelude.{◌≡◌, ◌<◌, [], IfOk, length, map, slice_set};
 ghost use Rattle.tree_core.specs.Formula.{tree_of, one, between};
 ghost use Rattle.tree_core.specs.Label.{passing, unary, spill, call};
 ghost use Rattle.tree_core.specs.Tree.{tree, forest, under};
@@ -8,18 +8,18 @@ ghost use Rattle.intersect.specs.Drops.{all_drops, drops, IsWithout, IsWithoutAl
 use own_items::Boxed as Box;
 use std::alloc::Global;
 use tree_class::{Class, Operator};
-use tree_core::{Function, Memory, Node, Nodes, OpUnary};
+use tree_core::{Function, Memory, Node, Nodes, OpUnary, clone_nodes};
 
 /// A formula without one of its `@`s, found by number, or how far the number is beyond the last one.
 #[derive(Drop)]
-pub(crate) enum Without {
+pub(crate) enum Trial {
     Formula(Node),
     Beyond(usize),
 }
 
 /// So of some formulas, one of which lacks an `@`.
 #[derive(Drop)]
-pub(crate) enum WithoutAll {
+pub(crate) enum TrialAll {
     Formulas(Nodes),
     Beyond(usize),
 }
@@ -28,11 +28,11 @@ pub(crate) enum WithoutAll {
 /// whatever the formula.
 #[cycle(without)]
 #[tactic(auto, using(crate::proofs::Withouts::withouts))]
-pub(crate) fn without(alloc: Global, node: &Node, number: usize) -> Result<Without, Memory>
+pub(crate) fn without(alloc: Global, node: &Node, number: usize) -> Result<Trial, Memory>
     ensures { IfOk result (λ found. IsWithout (drops (tree_of node.now)) number found) }
 {
     match Class::of(node) {
-        Class::Whole => Ok(Without::Beyond(number)),
+        Class::Whole => Ok(Trial::Beyond(number)),
         Class::Unary { kind, right } => {
             let right = without(alloc, right, number)?;
             let found = in_unary(alloc, kind, right)?;
@@ -58,12 +58,144 @@ pub(crate) fn without(alloc: Global, node: &Node, number: usize) -> Result<Witho
         }
         Class::Intersection { child, .. } if number == 0 => {
             let child = child.try_clone(alloc)?;
-            Ok(Without::Formula(child))
+            Ok(Trial::Formula(child))
         }
         Class::Intersection { automatic, child } => {
             let child = without(alloc, child, number - 1)?;
             let found = in_intersection(alloc, automatic, child)?;
             Ok(found)
         }
+    }
+}
+
+#[cycle(without)]
+#[tactic(auto, using(crate::proofs::Withouts::sides))]
+fn without_side(
+    alloc: Global,
+    operator: Operator,
+    left: &Node,
+    right: &Node,
+    number: usize,
+) -> Result<Trial, Memory>
+    ensures { IfOk result (λ found. IsWithout (drops (between (operator_of operator) (tree_of left.now) (tree_of right.now))) number found) }
+{
+    match without(alloc, left, number)? {
+        Trial::Formula(node) => {
+            let right = right.try_clone(alloc)?;
+            let whole = operator.over(alloc, node, right)?;
+            Ok(Trial::Formula(whole))
+        }
+        Trial::Beyond(number) => {
+            let found = without(alloc, right, number)?;
+            let whole = in_right(alloc, operator, left, found)?;
+            Ok(whole)
+        }
+    }
+}
+
+#[cycle(without)]
+fn without_argument(alloc: Global, args: &Nodes, number: usize) -> Result<TrialAll, Memory>
+    ensures { IfOk result (λ found. IsWithoutAll (all_drops (forest (map tree_of args.now))) number found) }
+{
+    let mut left = number;
+    for (index, arg) in args.as_slice().iter().enumerate() {
+        match without(alloc, arg, left)? {
+            Trial::Formula(node) => {
+                let nodes = replaced(alloc, args, index, node)?;
+                return Ok(TrialAll::Formulas(nodes));
+            }
+            Trial::Beyond(still) => left = still,
+        }
+    }
+    Ok(TrialAll::Beyond(left))
+}
+
+/// Copies of some formulas, another one in the place of one.
+fn replaced(alloc: Global, args: &Nodes, index: usize, node: Node) -> Result<Nodes, Memory>
+    requires { index < length args.now }
+    ensures { IfOk result (λ nodes. nodes ≡ slice_set args.now index node) }
+{
+    let mut nodes = clone_nodes(alloc, args)?;
+    put_at(&mut nodes, index, node);
+    Ok(nodes)
+}
+
+fn put_at(nodes: &mut Nodes, index: usize, node: Node)
+    requires { index < length nodes.old }
+    ensures { nodes.new ≡ slice_set nodes.old index node }
+{
+    match nodes.get_mut(index) {
+        Some(place) => *place = node,
+        None => unreachable!(),
+    }
+}
+
+#[tactic(auto, using(tree_class::proofs::Trees::trees))]
+fn in_unary(alloc: Global, kind: OpUnary, right: Trial) -> Result<Trial, Memory>
+    ensures { IfOk result (λ found. Over (λ t. tree [] (passing (unary kind)) (one t)) right found) }
+{
+    match right {
+        Trial::Formula(node) => {
+            let right = Box::new(alloc, node)?;
+            Ok(Trial::Formula(Node::UnaryKind { kind, right }))
+        }
+        Trial::Beyond(number) => Ok(Trial::Beyond(number)),
+    }
+}
+
+fn in_right(
+    alloc: Global,
+    operator: Operator,
+    left: &Node,
+    right: Trial,
+) -> Result<Trial, Memory>
+    ensures { IfOk result (λ found. Over (λ t. between (operator_of operator) (tree_of left.now) t) right found) }
+{
+    match right {
+        Trial::Formula(node) => {
+            let left = left.try_clone(alloc)?;
+            let whole = operator.over(alloc, left, node)?;
+            Ok(Trial::Formula(whole))
+        }
+        Trial::Beyond(number) => Ok(Trial::Beyond(number)),
+    }
+}
+
+#[tactic(auto, using(tree_class::proofs::Trees::trees))]
+fn in_spill(alloc: Global, child: Trial) -> Result<Trial, Memory>
+    ensures { IfOk result (λ found. Over (λ t. tree [] spill (one t)) child found) }
+{
+    match child {
+        Trial::Formula(node) => {
+            let child = Box::new(alloc, node)?;
+            Ok(Trial::Formula(Node::SpillRangeOperator { child }))
+        }
+        Trial::Beyond(number) => Ok(Trial::Beyond(number)),
+    }
+}
+
+#[tactic(auto, using(tree_class::proofs::Trees::trees))]
+fn in_call(alloc: Global, kind: Function, args: TrialAll) -> Result<Trial, Memory>
+    ensures { IfOk result (λ found. OverAll (λ ts. tree [] (call kind) ts) args found) }
+{
+    match args {
+        TrialAll::Formulas(args) => Ok(Trial::Formula(Node::FunctionKind { kind, args })),
+        TrialAll::Beyond(number) => Ok(Trial::Beyond(number)),
+    }
+}
+
+#[tactic(auto, using(tree_class::proofs::Trees::trees))]
+fn in_intersection(alloc: Global, automatic: bool, child: Trial) -> Result<Trial, Memory>
+    ensures { IfOk result (λ found. Over (λ t. under automatic t) child found) }
+{
+    match child {
+        Trial::Formula(node) => {
+            let child = Box::new(alloc, node)?;
+            Ok(Trial::Formula(Node::ImplicitIntersection {
+                automatic,
+                child,
+            }))
+        }
+        Trial::Beyond(number) => Ok(Trial::Beyond(number)),
     }
 }

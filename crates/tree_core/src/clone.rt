@@ -276,8 +276,9 @@ fn clone_boxed(alloc: Global, child: &Box<Node>) -> Result<Box<Node>, Memory>
     Ok(boxed)
 }
 
+/// Equal formulas, in their order.
 #[cycle(clones)]
-fn clone_nodes(alloc: Global, nodes: &Nodes) -> Result<Nodes, Memory>
+pub fn clone_nodes(alloc: Global, nodes: &Nodes) -> Result<Nodes, Memory>
     ensures { IfOk result (λ copy. copy ≡ nodes.now) }
 {
     let mut copy = Items::new(alloc);

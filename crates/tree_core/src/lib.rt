@@ -3,6 +3,7 @@
 
 pub use array::{ArrayNode, Rows};
 pub use call_core::{Function, Plain, Steps};
+pub use clone::clone_nodes;
 pub use error::Error;
 pub use laws::{alike_by_flags, runs_fix_the_tree};
 pub use memory::Memory;
