@@ -7,3 +7,6 @@ pub mod Reach
 pub mod Shows
 pub mod Settle
 pub mod Withouts
+pub mod Trimmed
+pub mod OneDrop
+pub mod Inside

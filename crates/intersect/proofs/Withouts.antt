@@ -17,17 +17,17 @@ use Rattle.intersect.specs.declared.without.Trial.TheVariants.{Formula, Beyond}
 use Rattle.intersect.specs.declared.without.TrialAll.{TrialAll}
 use Rattle.intersect.specs.declared.without.TrialAll.TheVariants.{Formulas, Beyond as BeyondAll}
 
-get-map : {A B : Type 0} (f : A → B) (xs : List A) (i : ℕ) (x : A) → slice_get xs i ≡ Some x → slice_get (map f xs) i ≡ Some (f x)
+pub get-map : {A B : Type 0} (f : A → B) (xs : List A) (i : ℕ) (x : A) → slice_get xs i ≡ Some x → slice_get (map f xs) i ≡ Some (f x)
 get-map f [] i x h = cc
 get-map f (y ∷ ys) zero x h = let same : y ≡ x = cc in ap (λ z. Some (f z)) same
 get-map f (y ∷ ys) (suc i) x h = get-map f ys i x h
 
-get-front : {A : Type 0} (xs ys : List A) (i : ℕ) (x : A) → slice_get xs i ≡ Some x → slice_get (xs ++ ys) i ≡ Some x
+pub get-front : {A : Type 0} (xs ys : List A) (i : ℕ) (x : A) → slice_get xs i ≡ Some x → slice_get (xs ++ ys) i ≡ Some x
 get-front [] ys i x h = cc
 get-front (z ∷ xs) ys zero x h = h
 get-front (z ∷ xs) ys (suc i) x h = get-front xs ys i x h
 
-get-behind : {A : Type 0} (xs ys : List A) (i k : ℕ) → k ≡ length xs + i → slice_get (xs ++ ys) k ≡ slice_get ys i
+pub get-behind : {A : Type 0} (xs ys : List A) (i k : ℕ) → k ≡ length xs + i → slice_get (xs ++ ys) k ≡ slice_get ys i
 get-behind [] ys i k h = ap (slice_get ys) (let same : k ≡ i = omega arith in same)
 get-behind (x ∷ xs) ys i zero h = absurd (omega arith)
 get-behind (x ∷ xs) ys i (suc k) h = get-behind xs ys i k (omega arith)
