@@ -179,4 +179,3 @@ module _ (table : Table) (add : Bool) where
       let b : length (run_at whole h.place) ≡ length (run_at import h.place) = ap length (sym (stays whole h.place h.inside_whole)) ∙ back.1 h.place in
       let c = h.longer in
       absurd (omega arith)
-

@@ -10,3 +10,4 @@ pub mod Withouts
 pub mod Trimmed
 pub mod OneDrop
 pub mod Inside
+pub mod Exports

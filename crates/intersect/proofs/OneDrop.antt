@@ -133,4 +133,3 @@ mutual
       let a = drops_count t in
       let b = all_drops_count ts in
       omega arith
-

@@ -64,7 +64,6 @@ module _ (table : Table) where
     afters-shapes contexts none = refl
     afters-shapes contexts (more t ts) = ap₂ (λ s ss. s ∷ ss) (after-shape (contexts 0) t) (afters-shapes (λ i. contexts (suc i)) ts)
 
-
 -- ---- contexts fall
 
 large_above : (lower upper : StaticResult) → IsAtMost lower upper → is_large lower ≡ true → is_large upper ≡ true
@@ -227,4 +226,3 @@ module _ (table : Table) (monotone : IsMonotone table) where
         → import_all (import_rule table) later (import_all (import_rule table) contexts ts) ≡ import_all (import_rule table) contexts ts
     agains contexts later fall none = refl
     agains contexts later fall (more t ts) = ap₂ more (again (contexts 0) (later 0) (fall 0) t) (agains (λ i. contexts (suc i)) (λ i. later (suc i)) (λ i. fall (suc i)) ts)
-

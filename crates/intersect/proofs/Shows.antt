@@ -173,4 +173,3 @@ module _ (table : Table) (given after_import : List StaticResult) (ts : Trees) w
   rows-kept Bycol = refl
   rows-kept Makearray = refl
   rows-kept (Other id) = refl
-

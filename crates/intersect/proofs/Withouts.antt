@@ -185,4 +185,5 @@ pub set-argument : (args : List Node) (i : ℕ) (arg node : Node) (number left :
 set-argument args i arg node number left within is before h = set-count args i arg node left within is h number before
 
 pub ruleset withouts = (without-whole, without-unary, without-spill, without-call, without-first, without-under)
+
 pub ruleset sides = (without-left, without-right)

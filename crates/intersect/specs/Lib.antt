@@ -11,3 +11,4 @@ pub mod Settled
 pub mod Dropped
 pub mod Exported
 pub mod Drops
+pub mod Export

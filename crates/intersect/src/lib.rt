@@ -10,6 +10,7 @@ pub use laws::{import_is_a_function, import_settles};
 pub use range_text::is_range_reference;
 
 mod context;
+mod export;
 mod import;
 mod laws;
 mod range_text;

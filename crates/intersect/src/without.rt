@@ -143,12 +143,7 @@ fn in_unary(alloc: Global, kind: OpUnary, right: Trial) -> Result<Trial, Memory>
     }
 }
 
-fn in_right(
-    alloc: Global,
-    operator: Operator,
-    left: &Node,
-    right: Trial,
-) -> Result<Trial, Memory>
+fn in_right(alloc: Global, operator: Operator, left: &Node, right: Trial) -> Result<Trial, Memory>
     ensures { IfOk result (λ found. Over (λ t. between (operator_of operator) (tree_of left.now) t) right found) }
 {
     match right {
@@ -191,10 +186,7 @@ fn in_intersection(alloc: Global, automatic: bool, child: Trial) -> Result<Trial
     match child {
         Trial::Formula(node) => {
             let child = Box::new(alloc, node)?;
-            Ok(Trial::Formula(Node::ImplicitIntersection {
-                automatic,
-                child,
-            }))
+            Ok(Trial::Formula(Node::ImplicitIntersection { automatic, child }))
         }
         Trial::Beyond(number) => Ok(Trial::Beyond(number)),
     }

@@ -1,0 +1,49 @@
+-- On the way to an export.
+--   ComesBack   the import of a formula is the imported one, flags aside
+--   IsOnTheWay  `@`s were dropped, and the import of what is left comes back
+--   NoneBack    of the first so many formulas with one `@` fewer, none comes back
+--   IsTried     what came of one drop: it comes back; it is kept; there is none of that number
+--   IsSwept     what came of all drops in a row: something was dropped, or nothing comes back any more
+use Rattle.std.specs.Prelude.{◌≡◌, ℕ, ◌<◌, ◌≤◌, Bool, true, false, length, slice_get, Some}
+use Rattle.kind_table.specs.Table.{Table}
+use Rattle.tree_core.specs.Count.{ats_of}
+use Rattle.tree_core.specs.Flags.{Alike}
+use Rattle.tree_core.specs.Formula.{tree_of}
+use Rattle.tree_core.specs.Tree.{Tree}
+use Rattle.tree_core.specs.declared.node.Node.{Node}
+use Rattle.intersect.specs.declared.export.Tried.{Tried}
+use Rattle.intersect.specs.declared.export.Tried.TheVariants as tried
+use Rattle.intersect.specs.declared.export.Swept.{Swept}
+use Rattle.intersect.specs.Dropped.{Dropped}
+use Rattle.intersect.specs.Drops.{drops}
+use Rattle.intersect.specs.ImportOf.{import_of}
+use Rattle.intersect.specs.ImportRule.{import_rule}
+
+abbrev pub ComesBack : Table → Bool → (import formula : Tree) → Type 0
+ComesBack table add import formula = Alike (import_of (import_rule table) add formula) import
+
+pub record IsOnTheWay (table : Table) (add : Bool) (import export : Tree) : Type 0 where
+  pub dropped : Dropped export import
+  pub comes_back : ComesBack table add import export
+
+abbrev pub NoneBack : Table → Bool → (import export : Tree) → ℕ → Type 0
+NoneBack table add import export number = (i : ℕ) (further : Tree) → i < number → slice_get (drops export) i ≡ Some further → ¬ ComesBack table add import further
+
+pub record IsKept (table : Table) (add : Bool) (import export : Tree) (number : ℕ) : Type 0 where
+  pub there : number < length (drops export)
+  pub stays : (further : Tree) → slice_get (drops export) number ≡ Some further → ¬ ComesBack table add import further
+
+pub record IsDropped (table : Table) (add : Bool) (import export : Tree) (number : ℕ) (further : Tree) : Type 0 where
+  pub is : slice_get (drops export) number ≡ Some further
+  pub comes_back : ComesBack table add import further
+
+abbrev pub IsTried : Table → Bool → (import export : Tree) → ℕ → Tried → Type 0
+IsTried table add import export number (tried.Dropped node) = IsDropped table add import export number (tree_of node)
+IsTried table add import export number tried.Kept = IsKept table add import export number
+IsTried table add import export number tried.Beyond = length (drops export) ≤ number
+
+pub record IsSwept (table : Table) (add : Bool) (import export : Tree) (swept : Swept) : Type 0 where
+  pub on_the_way : IsOnTheWay table add import (tree_of swept.export)
+  pub fewer : ats_of (tree_of swept.export) ≤ ats_of export
+  pub dropped : swept.dropped ≡ true → ats_of (tree_of swept.export) < ats_of export
+  pub least : swept.dropped ≡ false → NoneBack table add import (tree_of swept.export) (length (drops (tree_of swept.export)))

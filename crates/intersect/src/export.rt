@@ -1,0 +1,150 @@
+ghost use Rattle.std.specs.Prelude.{◌≡◌, ◌<◌, ◌^◌, ◌↔◌, IfOk, OnOk, OnErr, IsTrue};
+ghost use Rattle.tree_core.specs.Count.{ats_of, size_of};
+ghost use Rattle.tree_core.specs.Formula.{tree_of};
+ghost use Rattle.intersect.specs.Export.{ComesBack, IsOnTheWay, IsSwept, IsTried};
+ghost use Rattle.intersect.specs.Exported.{Exported};
+ghost use Rattle.intersect.specs.ImportRule.{import_rule};
+
+use crate::visit::visit;
+use crate::without::{Trial, without};
+use kind_table::Asks;
+use std::alloc::Global;
+use tree_core::{Memory, Node, Plain, Steps};
+
+/// Drops `@`s of an imported formula: its import is then that formula again, flags aside, and after any single further drop it
+/// is not. `add` says whether one value is wanted of the whole formula. For want of memory the formula stays.
+///
+/// The formula is its own import, flags aside, and has fewer than 2^64 nodes.
+pub fn remove_redundant_implicit_intersection<K: Asks<Plain>>(
+    alloc: Global,
+    node: &mut Node,
+    add: bool,
+    kinds: &K,
+) -> Result<(), Memory>
+    requires own_import { ComesBack (K.table kinds.now) add (tree_of node.old) (tree_of node.old) }
+    requires countable { size_of (tree_of node.old) < 2 ^ 64 }
+    ensures ok { OnOk result (Exported (import_rule (K.table kinds.now)) add (tree_of node.old) (tree_of node.new)) }
+    ensures memory { OnErr result (node.new ≡ node.old) }
+{
+    let export = exported(alloc, node, add, kinds)?;
+    *node = export;
+    Ok(())
+}
+
+/// The same as a new formula, which leaves the given one as it is.
+#[tactic(auto, using(crate::proofs::Exports::exported))]
+pub fn exported<K: Asks<Plain>>(
+    alloc: Global,
+    node: &Node,
+    add: bool,
+    kinds: &K,
+) -> Result<Node, Memory>
+    requires own_import { ComesBack (K.table kinds.now) add (tree_of node.now) (tree_of node.now) }
+    requires countable { size_of (tree_of node.now) < 2 ^ 64 }
+    ensures { IfOk result (λ export. Exported (import_rule (K.table kinds.now)) add (tree_of node.now) (tree_of export)) }
+{
+    let mut steps = Steps::new(Plain);
+    let mut export = node.try_clone(alloc)?;
+    let mut going = true;
+    while going {
+        let swept = sweep(alloc, node, export, add, kinds, &mut steps)?;
+        going = swept.dropped;
+        export = swept.export;
+    }
+    Ok(export)
+}
+
+/// What came of one drop.
+#[derive(Drop)]
+enum Tried {
+    /// The formula without the `@`, whose import comes back.
+    Dropped(Node),
+    /// Its import would not come back.
+    Kept,
+    /// There is no `@` of that number.
+    Beyond,
+}
+
+/// What came of all drops in a row.
+#[derive(Drop)]
+struct Swept {
+    export: Node,
+    dropped: bool,
+}
+
+/// Whether the import of a formula is the imported one, flags aside.
+fn comes_back<K: Asks<L>, L>(
+    alloc: Global,
+    import: &Node,
+    formula: &Node,
+    add: bool,
+    kinds: &K,
+    steps: &mut Steps<L>,
+) -> Result<bool, Memory>
+    ensures { IfOk result (λ back. IsTrue back ↔ ComesBack (K.table kinds.now) add (tree_of import.now) (tree_of formula.now)) }
+{
+    let visited = visit(alloc, formula, add, kinds, steps)?;
+    let back = visited.node.same_but_flags(import);
+    drop(visited);
+    Ok(back)
+}
+
+/// The formula without the `@` of a number, if its import comes back.
+fn try_drop<K: Asks<L>, L>(
+    alloc: Global,
+    import: &Node,
+    export: &Node,
+    number: usize,
+    add: bool,
+    kinds: &K,
+    steps: &mut Steps<L>,
+) -> Result<Tried, Memory>
+    ensures { IfOk result (λ tried. IsTried (K.table kinds.now) add (tree_of import.now) (tree_of export.now) number tried) }
+{
+    match without(alloc, export, number)? {
+        Trial::Beyond(_) => Ok(Tried::Beyond),
+        Trial::Formula(further) => {
+            if comes_back(alloc, import, &further, add, kinds, steps)? {
+                Ok(Tried::Dropped(further))
+            } else {
+                drop(further);
+                Ok(Tried::Kept)
+            }
+        }
+    }
+}
+
+fn put(place: &mut Node, node: Node)
+    ensures { place.new ≡ node }
+{
+    *place = node;
+}
+
+/// Tries each `@` of a formula whose import comes back, from the front on, and drops each that can go.
+#[tactic(auto, using(crate::proofs::Exports::swept))]
+fn sweep<K: Asks<L>, L>(
+    alloc: Global,
+    import: &Node,
+    export: Node,
+    add: bool,
+    kinds: &K,
+    steps: &mut Steps<L>,
+) -> Result<Swept, Memory>
+    requires on_the_way { IsOnTheWay (K.table kinds.now) add (tree_of import.now) (tree_of export) }
+    requires countable { ats_of (tree_of export) < 2 ^ 64 }
+    ensures { IfOk result (λ swept. IsSwept (K.table kinds.now) add (tree_of import.now) (tree_of export) swept) }
+{
+    let mut export = export;
+    let mut dropped = false;
+    let mut number = 0;
+    loop {
+        match try_drop(alloc, import, &export, number, add, kinds, steps)? {
+            Tried::Beyond => return Ok(Swept { export, dropped }),
+            Tried::Kept => number += 1,
+            Tried::Dropped(further) => {
+                put(&mut export, further);
+                dropped = true;
+            }
+        }
+    }
+}
