@@ -60,17 +60,29 @@ fn a_clone_is_equal_and_a_changed_formula_is_not(rt: HostRuntime) -> Result<(), 
 
 #[test]
 fn flags_alone_may_differ(rt: HostRuntime) -> Result<(), Fail> {
-    let alloc = rt.alloc();
-    let given = every(alloc, &GIVEN)?;
     for changed in &CHANGED {
-        let other = every(alloc, changed)?;
-        assert_eq!(rt; given.same_but_flags(&other), !changed.automatic);
+        let same = is_given_but_flags(rt.alloc(), changed, false)?;
+        assert_eq!(rt; same, !changed.automatic);
+        let same = is_given_but_flags(rt.alloc(), changed, true)?;
+        assert_eq!(rt; same, false);
     }
-    let wrapped = at(alloc, true, every(alloc, &GIVEN)?)?;
-    assert!(rt; !given.same_but_flags(&wrapped));
     runs_fix_the_tree();
     alike_by_flags();
     Ok(())
+}
+
+/// Whether the given formula is that of these fields but for flags, with one more `@` over that if it is wrapped.
+fn is_given_but_flags(
+    alloc: Global,
+    fields: &Fields<'static>,
+    wrapped: bool,
+) -> Result<bool, Memory> {
+    let given = every(alloc, &GIVEN)?;
+    let mut other = every(alloc, fields)?;
+    if wrapped {
+        other = at(alloc, true, other)?;
+    }
+    Ok(given.same_but_flags(&other))
 }
 
 #[test]
