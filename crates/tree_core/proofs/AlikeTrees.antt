@@ -6,14 +6,13 @@ use Rattle.std.proofs.Common.{◌≡◌, ◌↔◌, ℕ, zero, suc, Bool, true, 
 use Rattle.std.proofs.Math.Nat.{suc_inj}
 use Rattle.std.proofs.lemmas.List.{length-map}
 use Rattle.std.specs.Option.{option_map_or}
-use Rattle.tree_core.specs.Label.{Corner, Sheet, Leaf, Label, leaf, passing, spill, closed, call}
-use Rattle.tree_core.specs.Label.{boolean, number, string, error, empty, reference, range, wrong_reference, wrong_range, array, defined_name, table_name, named_variable, parse_error}
+use Rattle.tree_core.specs.Label.{passing, spill, closed, call}
 use Rattle.tree_core.specs.Label.{concatenate, power, sum, product, compare, binary, unary, range_operator, named_call, lambda_definition, lambda_call}
 use Rattle.tree_core.specs.Tree.{Run, Tree, tree, Trees, none, more, forest, under, run_of, skeleton, skeletons}
 use Rattle.tree_core.specs.Place.{Place, child, at, run_at}
 use Rattle.tree_core.specs.Formula.{one, two, layer, tree_of}
-use Rattle.tree_core.specs.Flags.{set_flag, flags_set, Alike}
-use Rattle.tree_core.specs.declared.node.Node.{Node, roll-Node}
+use Rattle.tree_core.specs.Flags.{flags_set, Alike}
+use Rattle.tree_core.specs.declared.node.Node.{Node}
 use Rattle.tree_core.specs.declared.node.Node.TheOpen.{Node-F}
 use Rattle.tree_core.specs.declared.node.Node.TheFolds.{map-Node, fold-roll-Node, ind-Node}
 use Rattle.tree_core.proofs.Flagged.{step, above}

@@ -3,7 +3,7 @@
 --   readback   of the tree of a formula it is that formula
 --   one_tree   so formulas with one tree are one
 use Rattle.std.proofs.Common.{◌≡◌, Bool, List, [], ◌∷◌, map, refl, sym, ap, ap₂, ◌∙◌, subst}
-use Rattle.tree_core.specs.Label.{Corner, Sheet, Leaf, Label, leaf, passing, spill, closed, call}
+use Rattle.tree_core.specs.Label.{Leaf, Label, leaf, passing, spill, closed, call}
 use Rattle.tree_core.specs.Label.{boolean, number, string, error, empty, reference, range, wrong_reference, wrong_range, array, defined_name, table_name, named_variable, parse_error}
 use Rattle.tree_core.specs.Label.{concatenate, power, sum, product, compare, binary, unary, range_operator, named_call, lambda_definition, lambda_call}
 use Rattle.tree_core.specs.Tree.{Run, Tree, tree, Trees, none, more, forest, under}

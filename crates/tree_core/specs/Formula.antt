@@ -5,8 +5,8 @@
 --   corner        where an end of a reference lies
 --   layer         the tree of a node whose children are seen as their trees
 --   tree_of       the tree of a node
-use Rattle.std.specs.Prelude.{ℤ, Bool, [], ◌∷◌}
-use Rattle.tree_core.specs.Label.{Corner, Leaf, Binary, Label, leaf, passing, spill, closed, call}
+use Rattle.std.specs.Prelude.{ℤ, Bool, []}
+use Rattle.tree_core.specs.Label.{Corner, Leaf, Binary, leaf, passing, spill, closed, call}
 use Rattle.tree_core.specs.Label.{boolean, number, string, error, empty, reference, range, wrong_reference, wrong_range, array, defined_name, table_name, named_variable, parse_error}
 use Rattle.tree_core.specs.Label.{concatenate, power, sum, product, compare, binary, unary, range_operator, named_call, lambda_definition, lambda_call}
 use Rattle.tree_core.specs.Tree.{Tree, tree, Trees, none, more, forest, under}

@@ -3,6 +3,7 @@ ghost use Rattle.tree_core.specs.Variant.{IsLeaf, IsParseError, IsOperator, IsOp
 
 use crate::node::Node;
 use crate::same_reference::{is_range, is_reference, is_wrong_range, is_wrong_reference};
+use own_items::Boxed as Box;
 
 impl PartialEq for Node {
     ghost use Rattle.own_items.specs.Sameness.{same, same-laws};
@@ -107,21 +108,21 @@ fn is_operator(operator: &Node, other: &Node) -> bool
                 left: other_left,
                 right: other_right,
             },
-        ) => is(left.get(), other_left.get()) && is(right.get(), other_right.get()),
+        ) => are_sides(left, right, other_left, other_right),
         (
             Node::OpConcatenateKind { left, right },
             Node::OpConcatenateKind {
                 left: other_left,
                 right: other_right,
             },
-        ) => is(left.get(), other_left.get()) && is(right.get(), other_right.get()),
+        ) => are_sides(left, right, other_left, other_right),
         (
             Node::OpPowerKind { left, right },
             Node::OpPowerKind {
                 left: other_left,
                 right: other_right,
             },
-        ) => is(left.get(), other_left.get()) && is(right.get(), other_right.get()),
+        ) => are_sides(left, right, other_left, other_right),
         _ => false,
     }
 }
@@ -140,11 +141,7 @@ fn is_operator_of_kind(operator: &Node, other: &Node) -> bool
                 left: other_left,
                 right: other_right,
             },
-        ) => {
-            *kind == *other_kind
-                && is(left.get(), other_left.get())
-                && is(right.get(), other_right.get())
-        }
+        ) => { *kind == *other_kind && are_sides(left, right, other_left, other_right) }
         (
             Node::OpProductKind { kind, left, right },
             Node::OpProductKind {
@@ -152,11 +149,7 @@ fn is_operator_of_kind(operator: &Node, other: &Node) -> bool
                 left: other_left,
                 right: other_right,
             },
-        ) => {
-            *kind == *other_kind
-                && is(left.get(), other_left.get())
-                && is(right.get(), other_right.get())
-        }
+        ) => { *kind == *other_kind && are_sides(left, right, other_left, other_right) }
         (
             Node::CompareKind { kind, left, right },
             Node::CompareKind {
@@ -164,13 +157,22 @@ fn is_operator_of_kind(operator: &Node, other: &Node) -> bool
                 left: other_left,
                 right: other_right,
             },
-        ) => {
-            *kind == *other_kind
-                && is(left.get(), other_left.get())
-                && is(right.get(), other_right.get())
-        }
+        ) => { *kind == *other_kind && are_sides(left, right, other_left, other_right) }
         _ => false,
     }
+}
+
+/// Whether both sides are the other sides.
+#[cycle(equality)]
+fn are_sides(
+    left: &Box<Node>,
+    right: &Box<Node>,
+    other_left: &Box<Node>,
+    other_right: &Box<Node>,
+) -> bool
+    ensures { IsTrue result ↔ ((left.now ≡ other_left.now) × (right.now ≡ other_right.now)) }
+{
+    is(left.get(), other_left.get()) && is(right.get(), other_right.get())
 }
 
 /// Whether a node over one child is the other node.

@@ -49,28 +49,54 @@ static CHANGED: [Fields<'static>; 4] = [
 
 #[test]
 fn a_clone_is_equal_and_a_changed_formula_is_not(rt: HostRuntime) -> Result<(), Fail> {
-    let alloc = rt.alloc();
-    let given = every(alloc, &GIVEN)?;
-    assert_eq!(rt; given.try_clone(alloc)?, given);
+    assert!(rt; equals_its_clone(rt.alloc())?);
     for changed in &CHANGED {
-        assert_ne!(rt; every(alloc, changed)?, given);
+        let equal = equals_formula_of(rt.alloc(), changed)?;
+        assert!(rt; !equal);
     }
     Ok(())
 }
 
+fn equals_its_clone(alloc: Global) -> Result<bool, Memory> {
+    let given = every(alloc, &GIVEN)?;
+    let clone = given.try_clone(alloc)?;
+    Ok(given == clone)
+}
+
+fn equals_formula_of(alloc: Global, fields: &Fields<'static>) -> Result<bool, Memory> {
+    let given = every(alloc, &GIVEN)?;
+    let other = every(alloc, fields)?;
+    Ok(given == other)
+}
+
 #[test]
 fn flags_alone_may_differ(rt: HostRuntime) -> Result<(), Fail> {
-    let alloc = rt.alloc();
-    let given = every(alloc, &GIVEN)?;
     for changed in &CHANGED {
-        let other = every(alloc, changed)?;
-        assert_eq!(rt; given.same_but_flags(&other), !changed.automatic);
+        let same = equals_but_flags(rt.alloc(), changed)?;
+        assert_eq!(rt; same, !changed.automatic);
     }
-    let wrapped = at(alloc, true, every(alloc, &GIVEN)?)?;
-    assert!(rt; !given.same_but_flags(&wrapped));
+    assert!(rt; !equals_wrapped_but_flags(rt.alloc())?);
     runs_fix_the_tree();
     alike_by_flags();
     Ok(())
+}
+
+fn equals_but_flags(alloc: Global, fields: &Fields<'static>) -> Result<bool, Memory> {
+    let given = every(alloc, &GIVEN)?;
+    let other = every(alloc, fields)?;
+    Ok(given.same_but_flags(&other))
+}
+
+/// Whether the formula is but for flags that with one more `@` over it.
+fn equals_wrapped_but_flags(alloc: Global) -> Result<bool, Memory> {
+    let given = every(alloc, &GIVEN)?;
+    let other = wrapped(alloc)?;
+    Ok(given.same_but_flags(&other))
+}
+
+fn wrapped(alloc: Global) -> Result<Node, Memory> {
+    let given = every(alloc, &GIVEN)?;
+    at(alloc, true, given)
 }
 
 #[test]
