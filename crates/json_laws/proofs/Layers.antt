@@ -1,64 +1,22 @@
 -- From one layer of a formula to the whole.
---   children     the children of a node
---   every_child  what goes with each child of a layer holds of each of them
 --   layer_reads  a node whose own numbers are in range is read back, where its children are
 --   reads_back   so each formula in range is read back
-use Rattle.std.proofs.Common.{◌≡◌, List, [], ◌∷◌, map, Some, sym, ap, ◌∙◌, subst}
+use Rattle.std.proofs.Common.{◌≡◌, List, [], ◌∷◌, codes, Some, sym, ap, ◌∙◌, subst}
 use Rattle.std.specs.List.{AllByRecursion}
 use Rattle.serde_json.specs.Data.{Data}
-use Rattle.tree_core.specs.declared.node.Node.{Node, roll-Node, out-roll-Node}
+use Rattle.tree_core.specs.declared.node.Node.{Node, roll-Node}
 use Rattle.tree_core.specs.declared.node.Node.TheOpen.{Node-F}
-use Rattle.tree_core.specs.declared.node.Node.TheFolds.{map-Node, fold-roll-Node, ind-Node, every_here-Node, every_held-Node}
+use Rattle.tree_core.specs.declared.node.Node.TheFolds.{map-Node, fold-roll-Node, ind-Node}
 use Rattle.tree_core.specs.declared.node.Node.TheVariants.{rolls-BooleanKind, rolls-NumberKind, rolls-StringKind, rolls-ErrorKind, rolls-EmptyArgKind, rolls-ReferenceKind, rolls-RangeKind, rolls-WrongReferenceKind, rolls-WrongRangeKind, rolls-OpRangeKind, rolls-OpConcatenateKind, rolls-OpSumKind, rolls-OpProductKind, rolls-OpPowerKind, rolls-FunctionKind, rolls-NamedFunctionKind, rolls-ArrayKind, rolls-DefinedNameKind, rolls-TableNameKind, rolls-NamedVariableKind, rolls-CompareKind, rolls-UnaryKind, rolls-ParseErrorKind, rolls-ImplicitIntersection, rolls-SpillRangeOperator, rolls-LambdaDefKind, rolls-LambdaCallKind}
 use Rattle.formula_json.specs.declared.tag.Binary.TheVariants as binary
 use Rattle.formula_json.specs.declared.tag.Unary.TheVariants as one
 use Rattle.formula_json.specs.Formula.{node_of, between, over}
 use Rattle.print_core.specs.Formula.{layer_data, node_data, sum_tag, product_tag, compare_tag, unary_tag}
-use Rattle.std.specs.Prelude.{codes}
-use Rattle.json_laws.specs.InRange.{layer_in_range, InRange}
+use Rattle.json_laws.specs.InRange.{layer_in_range, InRange, children}
+use Rattle.json_laws.proofs.Children.{every_child, by_layer}
 use Rattle.json_laws.proofs.Leaves.{boolean_reads, number_reads, text_reads, error_reads, empty_reads, reference_reads, range_reads, wrong_reference_reads, wrong_range_reads, array_reads, defined_name_reads, table_reads, variable_reads, parse_error_reads}
 use Rattle.json_laws.proofs.Parents.{ReadsBack, binary_reads, unary_reads, intersection_reads, lambda_reads, call_reads, named_call_reads, lambda_call_reads}
 use Rattle.json_laws.proofs.Tags.{sum_named, product_named, compare_named, unary_named, op_range_named, concatenate_named, power_named, spill_named}
-
-abbrev children : {A : Type 0} → Node-F A → List A
-children (Node-F.OpRangeKind left right) = left ∷ right ∷ []
-children (Node-F.OpConcatenateKind left right) = left ∷ right ∷ []
-children (Node-F.OpSumKind kind left right) = left ∷ right ∷ []
-children (Node-F.OpProductKind kind left right) = left ∷ right ∷ []
-children (Node-F.OpPowerKind left right) = left ∷ right ∷ []
-children (Node-F.CompareKind kind left right) = left ∷ right ∷ []
-children (Node-F.UnaryKind kind operand) = operand ∷ []
-children (Node-F.ImplicitIntersection automatic child) = child ∷ []
-children (Node-F.SpillRangeOperator child) = child ∷ []
-children (Node-F.LambdaDefKind parameters body) = body ∷ []
-children (Node-F.FunctionKind kind args) = args
-children (Node-F.NamedFunctionKind name id args) = args
-children (Node-F.LambdaCallKind lambda args) = lambda ∷ args
-children _ = []
-
-module _ (P : Node → Type 0) where
-  abbrev With : Type 0
-  With = (node : Node) × P node
-
-  each_with : (args : List With) → AllByRecursion P (map (λ e. e.0) args)
-  each_with [] = tt
-  each_with (e ∷ args) = (e.1, each_with args)
-
-  every_child : (y : Node-F With) → AllByRecursion P (children (map-Node With Node (λ e. e.0) y))
-  every_child (Node-F.OpRangeKind left right) = (left.1, (right.1, tt))
-  every_child (Node-F.OpConcatenateKind left right) = (left.1, (right.1, tt))
-  every_child (Node-F.OpSumKind kind left right) = (left.1, (right.1, tt))
-  every_child (Node-F.OpProductKind kind left right) = (left.1, (right.1, tt))
-  every_child (Node-F.OpPowerKind left right) = (left.1, (right.1, tt))
-  every_child (Node-F.CompareKind kind left right) = (left.1, (right.1, tt))
-  every_child (Node-F.UnaryKind kind operand) = (operand.1, tt)
-  every_child (Node-F.ImplicitIntersection automatic child) = (child.1, tt)
-  every_child (Node-F.SpillRangeOperator child) = (child.1, tt)
-  every_child (Node-F.LambdaDefKind parameters body) = (body.1, tt)
-  every_child (Node-F.FunctionKind kind args) = each_with args
-  every_child (Node-F.NamedFunctionKind name id args) = each_with args
-  every_child (Node-F.LambdaCallKind lambda args) = (lambda.1, each_with args)
-  every_child _ = tt
 
 -- a layer is read back as the node that it is rolled into
 abbrev LayerReads : Node-F Node → Type 0
@@ -117,8 +75,6 @@ both (node ∷ nodes) fit law = (law.0 fit.0, both nodes fit.1 law.1)
 
 pub reads_back : (node : Node) → InRange node → node_of (node_data node) ≡ Some node
 reads_back = ind-Node Law (λ x y is fits.
-    let here : layer_in_range x = subst layer_in_range (out-roll-Node x) (every_here-Node layer_in_range (roll-Node x) fits) in
-    let held = every_held-Node layer_in_range (roll-Node x) fits in
-    let below : AllByRecursion InRange (children x) = subst (λ z. AllByRecursion InRange (children z)) (held.1 ∙ out-roll-Node x) (every_child InRange held.0) in
+    let parts = (by_layer x).0 fits in
     let law : AllByRecursion Law (children x) = subst (λ z. AllByRecursion Law (children z)) is (every_child Law y) in
-    ap node_of (fold-roll-Node Data layer_data x) ∙ layer_reads x here (both (children x) below law))
+    ap node_of (fold-roll-Node Data layer_data x) ∙ layer_reads x parts.0 (both (children x) parts.1 law))

@@ -5,4 +5,5 @@ mod Arrays
 mod Tags
 mod Leaves
 mod Parents
-mod Layers
+pub mod Children
+pub mod Layers

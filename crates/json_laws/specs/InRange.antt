@@ -1,17 +1,20 @@
--- Formulas whose numbers lie in the ranges of their types, as those of each formula in memory do.
+-- Formulas whose numbers lie in the ranges that the types of their fields have.
 --   IsU16, IsU32, IsI32, IsI64   a number in the range of that type
 --   id_in_range                  an id in the range of u32, where there is one
 --   kind_in_range                a kind of function whose number, where it has one, is in the range of u16
 --   element_in_range             an element of an array literal whose number, where it is one, is in the range of i64
 --   layer_in_range               the numbers that one node itself holds
 --   InRange                      those of each node of a formula
-use Rattle.std.specs.Prelude.{ℕ, ◌<◌, ◌^◌, ℤ, Option, IfSome, All, FitsSigned}
+--   children                     the children of a node
+--   InRangeByLayer               a formula is in range exactly where its own numbers are, and each of its children is
+use Rattle.std.specs.Prelude.{ℕ, ◌<◌, ◌^◌, ℤ, List, [], ◌∷◌, Option, IfSome, All, FitsSigned, ◌↔◌}
 use Rattle.std.specs.Int.{w32, w64}
+use Rattle.std.specs.List.{AllByRecursion}
 use Rattle.call_core.specs.declared.function.Function.{Function}
 use Rattle.call_core.specs.declared.function.Function.TheVariants.{Other}
 use Rattle.tree_core.specs.declared.array.ArrayNode.{ArrayNode}
 use Rattle.tree_core.specs.declared.array.ArrayNode.TheVariants.{Number}
-use Rattle.tree_core.specs.declared.node.Node.{Node}
+use Rattle.tree_core.specs.declared.node.Node.{Node, roll-Node}
 use Rattle.tree_core.specs.declared.node.Node.TheOpen.{Node-F}
 use Rattle.tree_core.specs.declared.node.Node.TheFolds.{every-Node}
 
@@ -56,3 +59,22 @@ layer_in_range _ = Unit {0}
 
 abbrev pub InRange : Node → Type 0
 InRange = every-Node layer_in_range
+
+abbrev pub children : {A : Type 0} → Node-F A → List A
+children (Node-F.OpRangeKind left right) = left ∷ right ∷ []
+children (Node-F.OpConcatenateKind left right) = left ∷ right ∷ []
+children (Node-F.OpSumKind kind left right) = left ∷ right ∷ []
+children (Node-F.OpProductKind kind left right) = left ∷ right ∷ []
+children (Node-F.OpPowerKind left right) = left ∷ right ∷ []
+children (Node-F.CompareKind kind left right) = left ∷ right ∷ []
+children (Node-F.UnaryKind kind operand) = operand ∷ []
+children (Node-F.ImplicitIntersection automatic child) = child ∷ []
+children (Node-F.SpillRangeOperator child) = child ∷ []
+children (Node-F.LambdaDefKind parameters body) = body ∷ []
+children (Node-F.FunctionKind kind args) = args
+children (Node-F.NamedFunctionKind name id args) = args
+children (Node-F.LambdaCallKind lambda args) = lambda ∷ args
+children _ = []
+
+abbrev pub InRangeByLayer : Type 0
+InRangeByLayer = (layer : Node-F Node) → InRange (roll-Node layer) ↔ (layer_in_range layer × AllByRecursion InRange (children layer))
