@@ -9,24 +9,25 @@ use json::Writer;
 use std::alloc::Global;
 use tree_core::{Memory, Node};
 
-/// The line of an answer: an object with the key `imported`, as compact JSON in UTF-8, and a newline.
-/// The error means want of memory.
-pub fn answer_line(alloc: Global, imported: &Node) -> Result<Vec<u8>, Memory>
-    ensures { IfOk result (λ line. line.items ≡ answer_line imported.now) }
+/// The line of an answer: an object with the keys `exported` and `imported`, in this order, as compact JSON in UTF-8,
+/// and a newline. The error means want of memory.
+pub fn answer_line(alloc: Global, exported: &Node, imported: &Node) -> Result<Vec<u8>, Memory>
+    ensures { IfOk result (λ line. line.items ≡ answer_line exported.now imported.now) }
 {
     let mut writer = Writer::new(Vec::new(alloc));
-    write_answer(&mut writer, imported)?;
+    write_answer(&mut writer, exported, imported)?;
     let mut line = writer.into_inner();
     line.push(b'\n')?;
     Ok(line)
 }
 
-fn write_answer(writer: &mut Writer, imported: &Node) -> Result<(), Memory>
+fn write_answer(writer: &mut Writer, exported: &Node, imported: &Node) -> Result<(), Memory>
     ensures before { writer.new.before ≡ writer.old.before }
-    ensures tokens { OnOk result
-        (writer.new.tokens ≡ writer.old.tokens ++ data_tokens (answer_data imported.now)) }
+    ensures tokens { OnOk result (writer.new.tokens
+        ≡ writer.old.tokens ++ data_tokens (answer_data exported.now imported.now)) }
 {
     writer.begin_object()?;
+    write_member(writer, "exported", exported)?;
     write_member(writer, "imported", imported)?;
     writer.end_object()?;
     Ok(())

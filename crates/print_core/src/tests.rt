@@ -260,8 +260,8 @@ fn expect_form(
     formula: Result<Node, Memory>,
     form: &str,
 ) -> Result<(), Fail> {
-    let line = answer_line(alloc, &formula?)?;
-    let expected = format!(in alloc; "{{\"imported\":{form}}}\n")?;
+    let line = answer_line(alloc, &Node::EmptyArgKind, &formula?)?;
+    let expected = format!(in alloc; "{{\"exported\":[\"empty\"],\"imported\":{form}}}\n")?;
     assert!(rt; line.as_slice() == expected.as_bytes(), "{form}");
     Ok(())
 }
@@ -352,9 +352,9 @@ fn writes_the_whole_line(rt: HostRuntime) -> Result<(), Fail> {
         row2: 2,
         column2: -2,
     };
-    let line = answer_line(alloc, &at(alloc, true, around)?)?;
+    let line = answer_line(alloc, &Node::BooleanKind(true), &at(alloc, true, around)?)?;
     let expected =
-        b"{\"imported\":[\"at\",true,[\"range\",0,null,false,false,-2,-2,false,false,2,-2]]}\n";
+        b"{\"exported\":[\"bool\",true],\"imported\":[\"at\",true,[\"range\",0,null,false,false,-2,-2,false,false,2,-2]]}\n";
     assert_eq!(rt; line.as_slice(), expected.as_slice());
     Ok(())
 }
