@@ -11,3 +11,4 @@ pub mod Trimmed
 pub mod OneDrop
 pub mod Inside
 pub mod Exports
+pub mod Sizes

@@ -17,7 +17,9 @@ use Rattle.kind_table.specs.ShapeLaws.{IsAtMost-refl, combined_monotone}
 use Rattle.kind_table.proofs.OwnRows.{own_rows_never_rise}
 use Rattle.kind_table.specs.Table.{Table}
 use Rattle.tree_core.specs.Label.{Label, leaf, passing, spill, closed, call}
-use Rattle.tree_core.specs.Tree.{Run, Tree, tree, Trees, none, more}
+use Rattle.tree_core.specs.Flags.{Alike}
+use Rattle.tree_core.specs.Place.{run_at}
+use Rattle.tree_core.specs.Tree.{Run, Tree, tree, Trees, none, more, skeleton}
 use Rattle.shape_core.specs.Shape.{call_shape, node_shape, passed, shape, shapes, shown_all}
 use Rattle.intersect.specs.After.{after, after_all, binds, context, is_large, is_range_like, is_scalar, signature_of, wants_one}
 use Rattle.intersect.specs.Imported.{merged}
@@ -226,3 +228,9 @@ module _ (table : Table) (monotone : IsMonotone table) where
         → import_all (import_rule table) later (import_all (import_rule table) contexts ts) ≡ import_all (import_rule table) contexts ts
     agains contexts later fall none = refl
     agains contexts later fall (more t ts) = ap₂ more (again (contexts 0) (later 0) (fall 0) t) (agains (λ i. contexts (suc i)) (λ i. later (suc i)) (λ i. fall (suc i)) ts)
+
+  -- so an imported formula is its own import
+  pub settled : (add : Bool) (given imported : Tree) → imported ≡ import_of (import_rule table) add given → Alike (import_of (import_rule table) add imported) imported
+  settled add given imported e =
+      let same : import_of (import_rule table) add imported ≡ imported = ap (import_of (import_rule table) add) e ∙ again add add (λ h. h) given ∙ sym e in
+      (ap skeleton same, λ place. ap (λ t. length (run_at t place)) same)

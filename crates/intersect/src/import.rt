@@ -1,5 +1,7 @@
-ghost use Rattle.std.specs.Prelude.{◌≡◌, IfOk, OnOk, OnErr};
+ghost use Rattle.std.specs.Prelude.{◌≡◌, ◌*◌, ◌≤◌, IfOk, OnOk, OnErr};
+ghost use Rattle.tree_core.specs.Count.{size_of};
 ghost use Rattle.tree_core.specs.Formula.{tree_of};
+ghost use Rattle.intersect.specs.Export.{ComesBack};
 ghost use Rattle.intersect.specs.ImportRule.{import_rule};
 ghost use Rattle.intersect.specs.Imported.{Imported};
 
@@ -11,6 +13,8 @@ use tree_core::{Memory, Node, Plain, Steps};
 /// Puts an automatic `@` over each range-like node where one value is wanted and makes one `@` of each other run of them, at
 /// every place that import reaches. `add` says whether one value is wanted of the whole formula. For want of memory the
 /// formula stays.
+///
+/// The imported formula is its own import, and has at most twice as many nodes.
 pub fn add_implicit_intersection<K: Asks<Plain>>(
     alloc: Global,
     node: &mut Node,
@@ -18,6 +22,8 @@ pub fn add_implicit_intersection<K: Asks<Plain>>(
     kinds: &K,
 ) -> Result<(), Memory>
     ensures ok { OnOk result (Imported (import_rule (K.table kinds.now)) add (tree_of node.old) (tree_of node.new)) }
+    ensures own_import { OnOk result (ComesBack (K.table kinds.now) add (tree_of node.new) (tree_of node.new)) }
+    ensures size { OnOk result (size_of (tree_of node.new) ≤ 2 * size_of (tree_of node.old)) }
     ensures memory { OnErr result (node.new ≡ node.old) }
 {
     let import = imported(alloc, node, add, kinds)?;
@@ -32,7 +38,9 @@ pub fn imported<K: Asks<Plain>>(
     add: bool,
     kinds: &K,
 ) -> Result<Node, Memory>
-    ensures { IfOk result (λ import. Imported (import_rule (K.table kinds.now)) add (tree_of node.now) (tree_of import)) }
+    ensures ok { IfOk result (λ import. Imported (import_rule (K.table kinds.now)) add (tree_of node.now) (tree_of import)) }
+    ensures own_import { IfOk result (λ import. ComesBack (K.table kinds.now) add (tree_of import) (tree_of import)) }
+    ensures size { IfOk result (λ import. size_of (tree_of import) ≤ 2 * size_of (tree_of node.now)) }
 {
     let mut steps = Steps::new(Plain);
     let visited = visit(alloc, node, add, kinds, &mut steps)?;

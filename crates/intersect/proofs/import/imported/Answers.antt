@@ -1,6 +1,21 @@
+use Rattle.std.proofs.Common.{◌≡◌, ◌∙◌, sym, ap, refl, length, subst}
+use Rattle.tree_core.specs.Count.{size_of}
+use Rattle.tree_core.specs.Flags.{Alike}
+use Rattle.tree_core.specs.Formula.{tree_of}
+use Rattle.tree_core.specs.Tree.{Tree, skeleton}
+use Rattle.intersect.specs.Export.{ComesBack}
+use Rattle.intersect.specs.ImportOf.{import_of}
 use Rattle.intersect.specs.ImportRule.{import_rule}
 use Rattle.intersect.proofs.Exists.{imports_since}
+use Rattle.intersect.proofs.Settle.{settled}
+use Rattle.intersect.proofs.Sizes.{size_since}
 use Rattle.intersect.proofs.import.imported.Goals as goal
 
-pub returns : goal.returns
-returns g c = imports_since _ _ _ _ c.in_ok-visited.ensures.tree
+pub returns-clause-ok : goal.returns-clause-ok
+returns-clause-ok g c = imports_since _ _ _ _ c.in_ok-visited.ensures.tree
+
+pub returns-clause-own_import : goal.returns-clause-own_import
+returns-clause-own_import g c = settled _ (g.met.K.Kinds.lawful c.args.kinds.now).monotone _ _ _ c.in_ok-visited.ensures.tree
+
+pub returns-clause-size : goal.returns-clause-size
+returns-clause-size g c = size_since (import_rule (g.K.Kinds.table c.args.kinds.now)) c.args.add _ _ c.in_ok-visited.ensures.tree
