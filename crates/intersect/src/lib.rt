@@ -13,5 +13,7 @@ mod context;
 mod import;
 mod laws;
 mod range_text;
+#[cfg(test)]
+mod tests;
 mod visit;
 mod visited;

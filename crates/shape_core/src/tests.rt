@@ -99,7 +99,7 @@ fn at(alloc: Global, child: Node) -> Result<Node, Memory> {
     })
 }
 
-fn first(alloc: Global, which: First) -> Result<Node, Memory> {
+fn argument(alloc: Global, which: First) -> Result<Node, Memory> {
     match which {
         First::Row => Ok(range(IN_ROW)),
         First::Column => Ok(range(IN_COLUMN)),
@@ -173,7 +173,7 @@ fn whole_formulas_have_their_shapes(rt: HostRuntime) -> Result<(), Fail> {
 fn calls_ask_what_bare_arguments_show(rt: HostRuntime) -> Result<(), Fail> {
     let alloc = rt.alloc();
     for &(kind, which, numbers, wanted) in &CALLS {
-        let call = call(alloc, kind, first(alloc, which)?, numbers)?;
+        let call = call(alloc, kind, argument(alloc, which)?, numbers)?;
         assert_eq!(rt;
             shape_of(alloc, &call)?,
             wanted,
