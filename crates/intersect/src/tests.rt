@@ -1,6 +1,8 @@
 use super::*;
 use formula::formula;
 use kind_table::CrateKinds;
+use std::alloc::Global;
+use std::process::Abort;
 use std::test::Fail;
 
 mod formula;
@@ -58,26 +60,32 @@ static TEXTS: [(&str, bool); 12] = [
 
 #[test]
 fn formulas_are_imported(rt: HostRuntime) -> Result<(), Fail> {
+    let alloc = rt.alloc();
     for &(given, wanted) in &WANTED {
-        imports(rt, true, given, wanted)?;
+        imports(&rt, alloc, true, given, wanted)?;
     }
     for &(given, wanted) in &NOT_WANTED {
-        imports(rt, false, given, wanted)?;
+        imports(&rt, alloc, false, given, wanted)?;
     }
     import_is_a_function();
     Ok(())
 }
 
-fn imports(rt: HostRuntime, add: bool, given: &str, wanted: &str) -> Result<(), Fail> {
-    let alloc = rt.alloc();
-    let mut node = formula(rt, given)?;
-    let wanted = formula(rt, wanted)?;
+fn imports(
+    rt: &impl Abort,
+    alloc: Global,
+    add: bool,
+    given: &str,
+    wanted: &str,
+) -> Result<(), Fail> {
+    let mut node = formula(alloc, given)?;
+    let wanted = formula(alloc, wanted)?;
     assert_eq!(rt;
         imported(alloc, &node, add, &CrateKinds)?,
         wanted,
         "{given}"
     );
-    assert_eq!(rt; node, formula(rt, given)?, "{given} itself");
+    assert_eq!(rt; node, formula(alloc, given)?, "{given} itself");
     add_implicit_intersection(alloc, &mut node, add, &CrateKinds)?;
     assert_eq!(rt; node, wanted, "{given} in place");
     Ok(())
