@@ -75,21 +75,16 @@ fn each_class_has_its_parts(rt: HostRuntime) -> Result<(), Fail> {
         right: Boxed::new(alloc, call)?,
     };
     assert!(rt; matches!(Class::of(&range_operator), Class::Whole));
-    Ok(())
-}
-
-#[test]
-fn an_operator_has_its_own_variant(rt: HostRuntime) -> Result<(), Fail> {
-    let alloc = rt.alloc();
     let quotient = Node::OpProductKind {
         kind: OpProduct::Divide,
         left: Boxed::new(alloc, Node::NumberKind(1))?,
         right: Boxed::new(alloc, Node::EmptyArgKind)?,
     };
-    let operator = Operator::Product(OpProduct::Divide);
-    assert_eq!(rt;
-        operator.over(alloc, Node::NumberKind(1), Node::EmptyArgKind)?,
-        quotient
-    );
+    let over = Operator::Product(OpProduct::Divide).over(
+        alloc,
+        Node::NumberKind(1),
+        Node::EmptyArgKind,
+    )?;
+    assert_eq!(rt; over, quotient);
     Ok(())
 }
