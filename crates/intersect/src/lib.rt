@@ -14,6 +14,8 @@ mod export;
 mod import;
 mod laws;
 mod range_text;
+#[cfg(test)]
+mod tests;
 mod visit;
 mod visited;
 mod without;

@@ -12,3 +12,5 @@ pub use own::own_shape;
 mod analysis;
 mod leaf;
 mod own;
+#[cfg(test)]
+mod tests;

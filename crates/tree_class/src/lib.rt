@@ -6,3 +6,5 @@ pub use operator::Operator;
 
 mod class;
 mod operator;
+#[cfg(test)]
+mod tests;

@@ -1,0 +1,99 @@
+use super::*;
+use formula::formula;
+use kind_table::CrateKinds;
+use std::alloc::Global;
+use std::process::Abort;
+use std::test::Fail;
+
+mod formula;
+
+/// Formulas of which one value is wanted, and what they are imported as.
+static WANTED: [(&str, &str); 22] = [
+    ("A1:A5 1 + SIN/1", "A1:A5 1 + SIN/1"),
+    ("A1:A3 @ 1 + SIN/1", "A1:A3 @ 1 + SIN/1"),
+    ("A1:A5 @ SIN/1 @", "A1:A5 @ SIN/1 @"),
+    ("A1:A3 B1:B3 J:J @ SUM/3", "A1:A3 B1:B3 J:J @ SUM/3"),
+    ("A1:A5 B1:B3 INDEX/2 @ @ @", "A1:A5 B1:B3 ~ INDEX/2 ~"),
+    (
+        "A1:A3 B1:B3 1 INDEX/2 + SIN/1",
+        "A1:A3 ~ B1:B3 1 INDEX/2 ~ + SIN/1",
+    ),
+    ("A1:A5 1 2 CHOOSE/3", "A1:A5 ~ 1 2 CHOOSE/3"),
+    ("A1:A3 @ @ SIN/1", "A1:A3 @ SIN/1"),
+    ("x 1 x LET/3", "x 1 x LET/3"),
+    ("x", "x ~"),
+    ("Sheet1!A1:B3", "Sheet1!A1:B3 ~"),
+    ("Sheet1!$A$1:$A$5", "Sheet1!$A$1:$A$5"),
+    ("A1:A3 % #", "A1:A3 ~ % #"),
+    ("1 ~ @", "1 ~"),
+    ("1 @ ~", "1 @"),
+    ("A1:A3 1 @ ~ + @", "A1:A3 1 @ ~ + @"),
+    ("A1:A3 x @ ~ :", "A1:A3 x @ ~ : ~"),
+    ("A1:A3 @ @ lambda", "A1:A3 @ @ lambda"),
+    ("x lambda A1:A3 @ @ apply/1", "x lambda A1:A3 @ @ apply/1"),
+    ("A1:A3 @ @ f/1", "A1:A3 @ @ f/1"),
+    ("A1:A3 f/1 @ @", "A1:A3 f/1 @"),
+    ("A1:A3 1 @ ~ + f/1 x +", "A1:A3 1 @ ~ + f/1 x ~ +"),
+];
+
+/// Formulas of which no one value is wanted.
+static NOT_WANTED: [(&str, &str); 3] = [
+    ("A1:A3 @ ~", "A1:A3 @"),
+    ("x A1:A3 +", "x A1:A3 +"),
+    ("A1:A5 B1:B3 INDEX/2", "A1:A5 B1:B3 ~ INDEX/2"),
+];
+
+static TEXTS: [(&str, bool); 12] = [
+    ("Sheet1!A1:B3", true),
+    ("Sheet1!$A$1:$A$5", false),
+    ("A:B", true),
+    ("1:3", true),
+    (":", true),
+    ("$A$1:B3", true),
+    ("A1:B3:C", true),
+    ("A1:B3:c1", false),
+    ("A1:3B", false),
+    ("A1:B3 ", false),
+    ("A1", false),
+    ("", false),
+];
+
+#[test]
+fn formulas_are_imported(rt: HostRuntime) -> Result<(), Fail> {
+    let alloc = rt.alloc();
+    for &(given, wanted) in &WANTED {
+        imports(&rt, alloc, true, given, wanted)?;
+    }
+    for &(given, wanted) in &NOT_WANTED {
+        imports(&rt, alloc, false, given, wanted)?;
+    }
+    import_is_a_function();
+    Ok(())
+}
+
+fn imports(
+    rt: &impl Abort,
+    alloc: Global,
+    add: bool,
+    given: &str,
+    wanted: &str,
+) -> Result<(), Fail> {
+    let mut node = formula(alloc, given)?;
+    let wanted = formula(alloc, wanted)?;
+    assert_eq!(rt;
+        imported(alloc, &node, add, &CrateKinds)?,
+        wanted,
+        "{given}"
+    );
+    assert_eq!(rt; node, formula(alloc, given)?, "{given} itself");
+    add_implicit_intersection(alloc, &mut node, add, &CrateKinds)?;
+    assert_eq!(rt; node, wanted, "{given} in place");
+    Ok(())
+}
+
+#[test]
+fn texts_end_as_a_range_does(rt: HostRuntime) {
+    for &(text, wanted) in &TEXTS {
+        assert_eq!(rt; is_range_reference(text), wanted, "{text}");
+    }
+}
