@@ -38,7 +38,7 @@ pub record IsAnswered (old new : Option (List ℕ)) (text : List ℕ) : Type 0 w
   pub is_request : request_of bytes ≡ Some request
   pub answer : Answer
   pub answers : Answers crate_table request.formula answer
-  pub text_is : text ≡ answer_line answer.imported
+  pub text_is : text ≡ answer_line answer.exported answer.imported
 
 pub record IsNoRequest (old new : Option (List ℕ)) : Type 0 where
   pub bytes : List ℕ

@@ -57,7 +57,7 @@ fn answer<S: Source>(alloc: Global, source: &mut S) -> Result<Vec<u8>, Refusal>
     drop(bytes);
     let answer = answer_formula(alloc, &CrateKinds, &request.formula)?;
     drop(request);
-    let line = answer_line(alloc, &answer.imported)?;
+    let line = answer_line(alloc, &answer.exported, &answer.imported)?;
     drop(answer);
     Ok(line)
 }

@@ -1,9 +1,11 @@
-ghost use Rattle.std.specs.Prelude.{◌≡◌, IfOk, Some, None, option_and_then, codes, is_some, map};
+ghost use Rattle.std.specs.Prelude.{◌≡◌, ◌≤◌, IfOk, Some, None, option_and_then, codes, is_some, map};
 ghost use Rattle.std.specs.List.{list_all};
 ghost use Rattle.serde_json.specs.Find.{as_str, get};
 ghost use Rattle.serde_json.specs.View.{view};
+ghost use Rattle.tree_core.specs.Count.{size_of};
+ghost use Rattle.tree_core.specs.Formula.{tree_of};
 ghost use Rattle.formula_json.specs.Answer.{Finds, FindsBy, Gives, GivesBy};
-ghost use Rattle.request_core.specs.Request.{is_blank, data_of, texts_in, sheets_in, cells_in, cell_in, request_in, request_of};
+ghost use Rattle.request_core.specs.Request.{is_blank, data_of, texts_in, sheets_in, cells_in, cell_in, formula_in, request_in, request_of};
 
 use formula_json::{
     RequestError, check_length, check_members, member, read_array, read_i32, read_node, read_u32,
@@ -24,6 +26,7 @@ pub struct Request {
 pub fn read_request(alloc: Global, bytes: &[u8]) -> Result<Request, RequestError>
     ensures found { IfOk result (λ request. request_of bytes.now ≡ Some request) }
     ensures not_of_form { result ≡ Err RequestError.NotOfForm → request_of bytes.now ≡ None }
+    ensures most { IfOk result (λ request. size_of (tree_of request.formula) ≤ 16777216) }
 {
     let value = parse(alloc, bytes)?;
     let request = read_value(alloc, &value)?;
@@ -63,14 +66,28 @@ fn is_blank(byte: u8) -> bool
 
 #[tactic(auto, unfolding(crate::specs::Request::request_in))]
 fn read_value(alloc: Global, value: &Value) -> Result<Request, RequestError>
-    ensures { Gives result (request_in (view value.now)) }
+    ensures found { Gives result (request_in (view value.now)) }
+    ensures most { IfOk result (λ request. size_of (tree_of request.formula) ≤ 16777216) }
 {
     check_members(value, 4)?;
     check_sheets(member(value, "sheets")?)?;
     check_cells(member(value, "cells")?)?;
     check_cell(member(value, "cell")?)?;
-    let formula = read_node(alloc, member(value, "formula")?)?;
+    let formula = read_formula(alloc, member(value, "formula")?)?;
     Ok(Request { formula })
+}
+
+#[tactic(auto, unfolding(crate::specs::Request::formula_in))]
+fn read_formula(alloc: Global, value: &Value) -> Result<Node, RequestError>
+    ensures found { Gives result (formula_in (view value.now)) }
+    ensures most { IfOk result (λ node. size_of (tree_of node) ≤ 16777216) }
+{
+    let node = read_node(alloc, value)?;
+    if node.has_at_most(16777216) {
+        Ok(node)
+    } else {
+        Err(RequestError::NotOfForm)
+    }
 }
 
 #[tactic(auto, unfolding(crate::specs::Request::sheets_in))]

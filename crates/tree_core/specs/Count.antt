@@ -2,8 +2,9 @@
 --   size_of   its nodes, the `@`s among them
 --   calls_of  its calls of functions, `calls_here` of them at one node
 --   ats_of    its `@`s: the lengths of its runs
+--   IsLeft    what is left of a number after so many; nothing where there are more
 --   size_of_all, calls_of_all, ats_of_all   so in some formulas together
-use Rattle.std.specs.Prelude.{ℕ, ◌+◌, length}
+use Rattle.std.specs.Prelude.{◌≡◌, ℕ, ◌+◌, ◌<◌, Option, Some, None, length}
 use Rattle.tree_core.specs.Label.{Label, leaf, passing, spill, closed, call}
 use Rattle.tree_core.specs.Tree.{Tree, tree, Trees, none, more}
 
@@ -37,3 +38,7 @@ abbrev mutual
   pub ats_of_all : Trees → ℕ
   ats_of_all none = 0
   ats_of_all (more t ts) = ats_of t + ats_of_all ts
+
+abbrev pub IsLeft : (count most : ℕ) → Option ℕ → Type 0
+IsLeft count most (Some left) = most ≡ count + left
+IsLeft count most None = most < count

@@ -8,7 +8,7 @@ use crate::node::Node;
 impl Node {
     /// How many nodes the formula has, its `@`s among them.
     #[cycle(node_count)]
-    pub fn node_count(&self) -> u64
+    pub fn node_count(&self) -> usize
         requires { size_of (tree_of self.now) < 2 ^ 64 }
         ensures { result ≡ size_of (tree_of self.now) }
     {
@@ -37,7 +37,7 @@ impl Node {
 
     /// How many calls of functions the formula has.
     #[cycle(call_count)]
-    pub fn call_count(&self) -> u64
+    pub fn call_count(&self) -> usize
         requires { size_of (tree_of self.now) < 2 ^ 64 }
         ensures exact { result ≡ calls_of (tree_of self.now) }
         ensures within { result ≤ size_of (tree_of self.now) }
@@ -65,7 +65,7 @@ impl Node {
 
     /// How many `@`s the formula has.
     #[cycle(at_count)]
-    pub fn at_count(&self) -> u64
+    pub fn at_count(&self) -> usize
         requires { size_of (tree_of self.now) < 2 ^ 64 }
         ensures exact { result ≡ ats_of (tree_of self.now) }
         ensures within { result ≤ size_of (tree_of self.now) }
@@ -94,7 +94,7 @@ impl Node {
 }
 
 #[cycle(node_count)]
-fn count_nodes(nodes: &[Node]) -> u64
+fn count_nodes(nodes: &[Node]) -> usize
     requires { size_of_all (forest (map tree_of nodes.now)) < 2 ^ 64 }
     ensures { result ≡ size_of_all (forest (map tree_of nodes.now)) }
 {
@@ -106,7 +106,7 @@ fn count_nodes(nodes: &[Node]) -> u64
 }
 
 #[cycle(call_count)]
-fn count_calls(nodes: &[Node]) -> u64
+fn count_calls(nodes: &[Node]) -> usize
     requires { size_of_all (forest (map tree_of nodes.now)) < 2 ^ 64 }
     ensures exact { result ≡ calls_of_all (forest (map tree_of nodes.now)) }
     ensures within { result ≤ size_of_all (forest (map tree_of nodes.now)) }
@@ -119,7 +119,7 @@ fn count_calls(nodes: &[Node]) -> u64
 }
 
 #[cycle(at_count)]
-fn count_ats(nodes: &[Node]) -> u64
+fn count_ats(nodes: &[Node]) -> usize
     requires { size_of_all (forest (map tree_of nodes.now)) < 2 ^ 64 }
     ensures exact { result ≡ ats_of_all (forest (map tree_of nodes.now)) }
     ensures within { result ≤ size_of_all (forest (map tree_of nodes.now)) }

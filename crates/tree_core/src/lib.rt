@@ -14,6 +14,7 @@ pub use position::{CellReferenceIndex, Range};
 pub use text::Text;
 
 mod array;
+mod bounded;
 mod clone;
 mod count;
 mod equality;
