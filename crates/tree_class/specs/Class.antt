@@ -6,8 +6,8 @@
 --   Falls        each part is a smaller formula than the node
 use Rattle.std.specs.Prelude.{◌≡◌, ◌<◌, [], map, ⊤}
 use denote.Param.Weighed.{most}
-use Rattle.tree_core.specs.Label.{Binary, concatenate, power, sum, product, compare, Label, leaf, passing, unary, spill, closed, call}
-use Rattle.tree_core.specs.Tree.{Tree, tree, Trees, none, forest, under}
+use Rattle.tree_core.specs.Label.{Binary, concatenate, power, sum, product, compare, leaf, passing, unary, spill, closed, call}
+use Rattle.tree_core.specs.Tree.{Tree, tree, none, forest, under}
 use Rattle.tree_core.specs.Formula.{tree_of, one, between}
 use Rattle.tree_core.specs.declared.node.Node.{Node, out-Node, size-Node}
 use Rattle.tree_core.specs.declared.node.Node.TheOpen.{Node-F}
