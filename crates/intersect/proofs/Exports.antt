@@ -10,7 +10,7 @@ use Rattle.intersect.specs.Drops.{drops}
 use Rattle.intersect.specs.Export.{ComesBack, IsOnTheWay, NoneBack, IsKept, IsDropped}
 use Rattle.intersect.specs.Exported.{Exported}
 use Rattle.intersect.specs.ImportRule.{import_rule}
-use Rattle.intersect.proofs.Inside.{one_drop, inside_fails}
+use Rattle.intersect.proofs.Fixed.{one_drop, fixed_fails}
 use Rattle.intersect.proofs.OneDrop.{is_drop, drops_count}
 use Rattle.intersect.proofs.Trimmed.{dropped-itself, dropped-more}
 
@@ -68,7 +68,7 @@ exports table add import export way never = record {
   comes_back = way.comes_back;
   least = λ further one. elim (one_drop further export one) [
     | inl of ↦ never of.0 further (within (drops export) of.0 further of.1) of.1
-    | inr below ↦ inside_fails table add further export import below way.comes_back
+    | inr fixed ↦ fixed_fails table add further export import fixed way.dropped
   ];
 }
 

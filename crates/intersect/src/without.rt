@@ -5,6 +5,7 @@ ghost use Rattle.tree_core.specs.Tree.{tree, forest, under};
 ghost use Rattle.tree_class.specs.Class.{operator_of};
 ghost use Rattle.intersect.specs.Drops.{all_drops, drops, IsWithout, IsWithoutAll, Over, OverAll};
 
+use crate::context::may_be_range_like;
 use own_items::Boxed as Box;
 use std::alloc::Global;
 use tree_class::{Class, Operator};
@@ -24,8 +25,8 @@ pub(crate) enum TrialAll {
     Beyond(usize),
 }
 
-/// The formula without the `@` of a number, from 0 in the order in which they stand, those aside that import does not come to
-/// whatever the formula.
+/// The formula without the `@` of a number, from 0 in the order in which they stand, those aside that import would never put back:
+/// inside of a node that it does not enter, and over one that never may stand for many values.
 #[cycle(without)]
 #[tactic(auto, using(crate::proofs::Withouts::withouts))]
 pub(crate) fn without(alloc: Global, node: &Node, number: usize) -> Result<Trial, Memory>
@@ -56,16 +57,35 @@ pub(crate) fn without(alloc: Global, node: &Node, number: usize) -> Result<Trial
             let found = in_call(alloc, kind, args)?;
             Ok(found)
         }
-        Class::Intersection { child, .. } if number == 0 => {
-            let child = child.try_clone(alloc)?;
-            Ok(Trial::Formula(child))
-        }
         Class::Intersection { automatic, child } => {
-            let child = without(alloc, child, number - 1)?;
-            let found = in_intersection(alloc, automatic, child)?;
+            let found = without_intersection(alloc, automatic, child, number)?;
             Ok(found)
         }
     }
+}
+
+#[cycle(without)]
+#[tactic(auto, using(crate::proofs::Withouts::unders))]
+fn without_intersection(
+    alloc: Global,
+    automatic: bool,
+    child: &Node,
+    number: usize,
+) -> Result<Trial, Memory>
+    ensures { IfOk result (λ found. IsWithout (drops (under automatic (tree_of child.now))) number found) }
+{
+    if !may_be_range_like(child) {
+        let child = without(alloc, child, number)?;
+        let found = in_intersection(alloc, automatic, child)?;
+        return Ok(found);
+    }
+    if number == 0 {
+        let child = child.try_clone(alloc)?;
+        return Ok(Trial::Formula(child));
+    }
+    let child = without(alloc, child, number - 1)?;
+    let found = in_intersection(alloc, automatic, child)?;
+    Ok(found)
 }
 
 #[cycle(without)]
