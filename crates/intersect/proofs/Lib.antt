@@ -12,3 +12,4 @@ pub mod OneDrop
 pub mod Fixed
 pub mod Exports
 pub mod Sizes
+pub mod Strips

@@ -209,6 +209,7 @@ pub set-argument : (args : List Node) (i : ℕ) (arg node : Node) (number left :
 set-argument args i arg node number left within is before h = set-count args i arg node left within is h number before
 
 pub ruleset withouts = (without-whole, without-unary, without-spill, without-call)
+
 pub ruleset unders = (without-first, without-under, without-kept)
 
 pub ruleset sides = (without-left, without-right)

@@ -15,7 +15,9 @@ mod context;
 mod export;
 mod import;
 mod laws;
+mod over;
 mod range_text;
+mod stripped;
 #[cfg(test)]
 mod tests;
 mod visit;

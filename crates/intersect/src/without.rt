@@ -6,7 +6,7 @@ ghost use Rattle.tree_class.specs.Class.{operator_of};
 ghost use Rattle.intersect.specs.Drops.{all_drops, drops, IsWithout, IsWithoutAll, Over, OverAll};
 
 use crate::context::may_be_range_like;
-use own_items::Boxed as Box;
+use crate::over::{intersection_over, spill_over, unary_over};
 use std::alloc::Global;
 use tree_class::{Class, Operator};
 use tree_core::{Function, Memory, Node, Nodes, OpUnary, clone_nodes};
@@ -150,14 +150,13 @@ fn put_at(nodes: &mut Nodes, index: usize, node: Node)
     }
 }
 
-#[tactic(auto, using(tree_class::proofs::Trees::trees))]
 fn in_unary(alloc: Global, kind: OpUnary, right: Trial) -> Result<Trial, Memory>
     ensures { IfOk result (λ found. Over (λ t. tree [] (passing (unary kind)) (one t)) right found) }
 {
     match right {
         Trial::Formula(node) => {
-            let right = Box::new(alloc, node)?;
-            Ok(Trial::Formula(Node::UnaryKind { kind, right }))
+            let whole = unary_over(alloc, kind, node)?;
+            Ok(Trial::Formula(whole))
         }
         Trial::Beyond(number) => Ok(Trial::Beyond(number)),
     }
@@ -176,14 +175,13 @@ fn in_right(alloc: Global, operator: Operator, left: &Node, right: Trial) -> Res
     }
 }
 
-#[tactic(auto, using(tree_class::proofs::Trees::trees))]
 fn in_spill(alloc: Global, child: Trial) -> Result<Trial, Memory>
     ensures { IfOk result (λ found. Over (λ t. tree [] spill (one t)) child found) }
 {
     match child {
         Trial::Formula(node) => {
-            let child = Box::new(alloc, node)?;
-            Ok(Trial::Formula(Node::SpillRangeOperator { child }))
+            let whole = spill_over(alloc, node)?;
+            Ok(Trial::Formula(whole))
         }
         Trial::Beyond(number) => Ok(Trial::Beyond(number)),
     }
@@ -199,14 +197,13 @@ fn in_call(alloc: Global, kind: Function, args: TrialAll) -> Result<Trial, Memor
     }
 }
 
-#[tactic(auto, using(tree_class::proofs::Trees::trees))]
 fn in_intersection(alloc: Global, automatic: bool, child: Trial) -> Result<Trial, Memory>
     ensures { IfOk result (λ found. Over (λ t. under automatic t) child found) }
 {
     match child {
         Trial::Formula(node) => {
-            let child = Box::new(alloc, node)?;
-            Ok(Trial::Formula(Node::ImplicitIntersection { automatic, child }))
+            let whole = intersection_over(alloc, automatic, node)?;
+            Ok(Trial::Formula(whole))
         }
         Trial::Beyond(number) => Ok(Trial::Beyond(number)),
     }
