@@ -14,7 +14,7 @@ use Rattle.tree_class.specs.Class.{IsWhole}
 use Rattle.shape_core.specs.Shape.{shown_all, shapes, call_shape, whole_shape}
 use Rattle.intersect.specs.Imported.{merged}
 use Rattle.intersect.specs.ImportOf.{is_bare, opens, import_of}
-use Rattle.intersect.specs.After.{after, after_all, binds, is_large, is_whole_range_like, wants_one}
+use Rattle.intersect.specs.After.{after, after_all, binds, is_large, is_whole_range_like, may_be_range_like, wants_one}
 use Rattle.intersect.specs.ImportRule.{import_rule}
 use Rattle.intersect.proofs.Below.{import_all, root_run, import_of-open, import_of-shut}
 
@@ -178,5 +178,20 @@ bare-under automatic (tree run label ts) = refl
 
 pub bare-whole : (t : Tree) → IsWhole t → is_bare (run_of t) ≡ true
 bare-whole t h = ap is_bare (run_of-whole t h)
+
+pub label-under : (automatic : Bool) (t : Tree) → label_of (under automatic t) ≡ label_of t
+label-under automatic (tree run label ts) = refl
+
+pub label-whole : (t : Tree) → IsWhole t → is_whole_range_like (label_of t) ≡ may_be_range_like (label_of t)
+label-whole (tree run (leaf l) ts) h = refl
+label-whole (tree run (closed c) ts) h = refl
+label-whole (tree [] (passing p) ts) h = absurd h
+label-whole (tree [] spill ts) h = absurd h
+label-whole (tree [] (call kind) ts) h = absurd h
+label-whole (tree (flag ∷ run) (passing p) ts) h = absurd h
+label-whole (tree (flag ∷ run) spill ts) h = absurd h
+label-whole (tree (flag ∷ run) (call kind) ts) h = absurd h
+
+pub ruleset labels = (label-under, label-whole)
 
 pub ruleset classes = (bare-under, bare-whole, import-under, import-whole, after-whole, import-unary, import-between, import-spill, after-unary, after-between, after-spill, after-call, after-under)

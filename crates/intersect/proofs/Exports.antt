@@ -5,14 +5,16 @@ use Rattle.std.proofs.Common.{◌≡◌, ℕ, zero, suc, ◌+◌, ◌-◌, ◌^�
 use Rattle.kind_table.specs.Table.{Table}
 use Rattle.tree_core.specs.Count.{ats_of, ats_of_all, size_of, size_of_all}
 use Rattle.tree_core.specs.Tree.{Tree, tree, Trees, none, more}
-use Rattle.intersect.specs.Dropped.{OneDropped}
+use Rattle.intersect.specs.Dropped.{Dropped, OneDropped}
+use Rattle.intersect.specs.Stripped.{stripped}
 use Rattle.intersect.specs.Drops.{drops}
 use Rattle.intersect.specs.Export.{ComesBack, IsOnTheWay, NoneBack, IsKept, IsDropped}
 use Rattle.intersect.specs.Exported.{Exported}
 use Rattle.intersect.specs.ImportRule.{import_rule}
-use Rattle.intersect.proofs.Inside.{one_drop, inside_fails}
+use Rattle.intersect.proofs.Fixed.{one_drop, fixed_fails}
 use Rattle.intersect.proofs.OneDrop.{is_drop, drops_count}
-use Rattle.intersect.proofs.Trimmed.{dropped-itself, dropped-more}
+use Rattle.intersect.proofs.Trimmed.{dropped-itself, dropped-more, fewer, trims_of}
+use Rattle.intersect.proofs.Strips.{stripped-dropped}
 
 within : {A : Type 0} (xs : List A) (i : ℕ) (x : A) → slice_get xs i ≡ Some x → i < length xs
 within [] i x h = cc
@@ -68,9 +70,17 @@ exports table add import export way never = record {
   comes_back = way.comes_back;
   least = λ further one. elim (one_drop further export one) [
     | inl of ↦ never of.0 further (within (drops export) of.0 further of.1) of.1
-    | inr below ↦ inside_fails table add further export import below way.comes_back
+    | inr fixed ↦ fixed_fails table add further export import fixed way.dropped
   ];
 }
+
+pub first_bare : (table : Table) (add : Bool) (import bare : Tree) → bare ≡ stripped import → ComesBack table add import bare → IsOnTheWay table add import bare
+first_bare table add import bare e back = record { dropped = subst (λ t. Dropped t import) (sym e) (stripped-dropped import); comes_back = back }
+
+pub way_fewer : (table : Table) (add : Bool) (import export : Tree) → IsOnTheWay table add import export → ats_of export ≤ ats_of import
+way_fewer table add import export way = fewer export import (trims_of export import way.dropped)
+
+pub ruleset first_tries = (first_bare, way_begins)
 
 pub ruleset exported = (exports, ats_countable, way_begins)
 

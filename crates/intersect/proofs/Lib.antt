@@ -9,6 +9,7 @@ pub mod Settle
 pub mod Withouts
 pub mod Trimmed
 pub mod OneDrop
-pub mod Inside
+pub mod Fixed
 pub mod Exports
 pub mod Sizes
+pub mod Strips

@@ -15,6 +15,7 @@ use Rattle.tree_core.specs.Tree.{Run, Tree, tree, Trees, none, more, run_of}
 use Rattle.tree_core.specs.Place.{Place, at, child, run_at}
 use Rattle.kind_table.specs.Table.{Table}
 use Rattle.intersect.specs.Dropped.{IsSubsequence, Dropped, OneDropped}
+use Rattle.intersect.specs.After.{may_be_range_like}
 use Rattle.intersect.specs.Drops.{run_drops, drops, all_drops}
 use Rattle.intersect.specs.ImportOf.{opens, reached, import_of}
 use Rattle.intersect.specs.ImportRule.{import_rule, is_closed}
@@ -43,31 +44,36 @@ in_either (z ∷ xs) ys (suc i) x h = in_either xs ys i x h
 
 -- ---- runs
 
-run_drop : (run part : Run) (i : ℕ) → slice_get (run_drops run) i ≡ Some part → IsSubsequence part run × (length run ≡ length part + 1)
-run_drop [] part i h = cc
-run_drop (flag ∷ run) part zero h =
+run_drop : (may : Bool) (run part : Run) (i : ℕ) → slice_get (run_drops may run) i ≡ Some part → IsSubsequence part run × (length run ≡ length part + 1)
+run_drop may [] part i h = cc
+run_drop false (flag ∷ run) part i h = cc
+run_drop true (flag ∷ run) part zero h =
     let same : run ≡ part = cc in
     (subst (λ p. IsSubsequence p (flag ∷ run)) same (behind run), ap (λ p. length (flag ∷ p)) same ∙ (let one : suc (length part) ≡ length part + 1 = omega arith in one))
   where
     behind : (run : Run) → IsSubsequence run (flag ∷ run)
     behind [] = tt
     behind (next ∷ run) = inr (sub-itself (next ∷ run))
-run_drop (flag ∷ run) part (suc i) h =
-    let m = mapped (λ r. flag ∷ r) (run_drops run) i part h in
-    let rest = run_drop run m.x i m.found in
+run_drop true (flag ∷ run) part (suc i) h =
+    let m = mapped (λ r. flag ∷ r) (run_drops true run) i part h in
+    let rest = run_drop true run m.x i m.found in
     (subst (λ p. IsSubsequence p (flag ∷ run)) (sym m.is) (inl (refl, rest.0)), ap suc rest.1 ∙ (let one : suc (length m.x + 1) ≡ length (flag ∷ m.x) + 1 = omega arith in one) ∙ ap (λ p. length p + 1) (sym m.is))
 
-run_drops_count : (run : Run) → length (run_drops run) ≡ length run
-run_drops_count [] = refl
-run_drops_count (flag ∷ run) = ap suc (length-map (run_drops run) (λ r. flag ∷ r) ∙ run_drops_count run)
+run_drops_count : (may : Bool) (run : Run) → length (run_drops may run) ≤ length run
+run_drops_count may [] = omega arith
+run_drops_count false (flag ∷ run) = omega arith
+run_drops_count true (flag ∷ run) =
+    let rest : length (run_drops true run) ≤ length run = run_drops_count true run in
+    let same : length (map (λ r. flag ∷ r) (run_drops true run)) ≡ length (run_drops true run) = length-map (run_drops true run) (λ r. flag ∷ r) in
+    omega arith
 
-pub one_run : (part run : Run) → IsSubsequence part run → length run ≡ length part + 1 → (i : ℕ) × (slice_get (run_drops run) i ≡ Some part)
+pub one_run : (part run : Run) → IsSubsequence part run → length run ≡ length part + 1 → (i : ℕ) × (slice_get (run_drops true run) i ≡ Some part)
 one_run part [] h e = absurd (omega arith)
 one_run [] (next ∷ []) h e = (0, refl)
 one_run [] (next ∷ after ∷ run) h e = absurd (omega arith)
 one_run (flag ∷ part) (next ∷ run) (inl h) e =
     let rest = one_run part run h.1 (omega arith) in
-    (suc rest.0, get-map (λ r. next ∷ r) (run_drops run) rest.0 part rest.1 ∙ ap (λ f. Some (f ∷ part)) (sym h.0))
+    (suc rest.0, get-map (λ r. next ∷ r) (run_drops true run) rest.0 part rest.1 ∙ ap (λ f. Some (f ∷ part)) (sym h.0))
 one_run (flag ∷ part) (next ∷ run) (inr h) e = (0, ap Some (sym (sub-same (flag ∷ part) run h (omega arith))))
 
 -- ---- each formula of the list
@@ -85,9 +91,9 @@ below run label ts part i false h each =
 
 mutual
   drop_trims : (whole part : Tree) (i : ℕ) → slice_get (drops whole) i ≡ Some part → Trimmed part whole × (ats_of whole ≡ ats_of part + 1)
-  drop_trims (tree run label ts) part i h = elim (in_either (map (λ r. tree r label ts) (run_drops run)) _ i part h) [
-    | inl here ↦ (let m = mapped (λ r. tree r label ts) (run_drops run) i part here in
-        let one = run_drop run m.x i m.found in
+  drop_trims (tree run label ts) part i h = elim (in_either (map (λ r. tree r label ts) (run_drops (may_be_range_like label) run)) _ i part h) [
+    | inl here ↦ (let m = mapped (λ r. tree r label ts) (run_drops (may_be_range_like label) run) i part here in
+        let one = run_drop (may_be_range_like label) run m.x i m.found in
         let trimmed : Trimmed (tree m.x label ts) (tree run label ts) = (one.0, (refl, all_trimmed-itself ts)) in
         let count : ats_of (tree run label ts) ≡ ats_of (tree m.x label ts) + 1 = (let fact = one.1 in omega arith) in
         subst (λ p. Trimmed p (tree run label ts) × (ats_of (tree run label ts) ≡ ats_of p + 1)) (sym m.is) (trimmed, count))
@@ -119,9 +125,10 @@ below_count run label ts false most = let count : length (map (λ us. tree run l
 mutual
   pub drops_count : (t : Tree) → length (drops t) ≤ ats_of t
   drops_count (tree run label ts) =
-      let here : length (map (λ r. tree r label ts) (run_drops run)) ≡ length run = length-map (run_drops run) (λ r. tree r label ts) ∙ run_drops_count run in
+      let here : length (map (λ r. tree r label ts) (run_drops (may_be_range_like label) run)) ≡ length (run_drops (may_be_range_like label) run) = length-map (run_drops (may_be_range_like label) run) (λ r. tree r label ts) in
+      let most : length (run_drops (may_be_range_like label) run) ≤ length run = run_drops_count (may_be_range_like label) run in
       let there : length (if is_closed label then [] else map (λ us. tree run label us) (all_drops ts)) ≤ ats_of_all ts = below_count run label ts (is_closed label) (all_drops_count ts) in
-      let both = length-append (map (λ r. tree r label ts) (run_drops run)) (if is_closed label then [] else map (λ us. tree run label us) (all_drops ts)) in
+      let both = length-append (map (λ r. tree r label ts) (run_drops (may_be_range_like label) run)) (if is_closed label then [] else map (λ us. tree run label us) (all_drops ts)) in
       omega arith
 
   all_drops_count : (ts : Trees) → length (all_drops ts) ≤ ats_of_all ts

@@ -45,7 +45,7 @@ sub-of-none : (part run : Run) → IsSubsequence part [] → IsSubsequence part 
 sub-of-none [] run h = tt
 sub-of-none (flag ∷ part) run h = absurd h
 
-sub-behind : (part run : Run) (flag : _) → IsSubsequence part run → IsSubsequence part (flag ∷ run)
+pub sub-behind : (part run : Run) (flag : _) → IsSubsequence part run → IsSubsequence part (flag ∷ run)
 sub-behind [] run flag h = tt
 sub-behind (first ∷ part) run flag h = inr h
 

@@ -4,12 +4,13 @@
 use Rattle.std.proofs.Common.{◌≡◌, ℕ, zero, suc, ◌+◌, ◌-◌, ◌<◌, List, [], ◌∷◌, ◌++◌, length, map, slice_get, slice_set, take, get_or, Some, None, Bool, true, false, if◌then◌else◌, ◌≢◌, refl, sym, ap, ap₂, ◌∙◌, arith, subst}
 use Rattle.std.proofs.lemmas.List.{length-map, length-append, map-append, append-nil}
 use Rattle.tree_core.specs.Label.{Binary, Label, leaf, passing, binary, unary, spill, closed, call}
-use Rattle.tree_core.specs.Tree.{Run, Tree, tree, Trees, none, more, forest, under}
+use Rattle.tree_core.specs.Tree.{Run, Tree, tree, Trees, none, more, forest, label_of, under}
 use Rattle.tree_core.specs.Formula.{tree_of, one, two, between}
 use Rattle.tree_core.specs.declared.operator.OpUnary.{OpUnary}
 use Rattle.call_core.specs.declared.function.Function.{Function}
 use Rattle.tree_core.specs.declared.node.Node.{Node}
 use Rattle.tree_class.specs.Class.{IsWhole}
+use Rattle.intersect.specs.After.{may_be_range_like}
 use Rattle.intersect.specs.ImportRule.{is_closed}
 use Rattle.intersect.specs.Drops.{run_drops, drops, all_drops, IsWithout, IsWithoutAll, Over, OverAll}
 use Rattle.intersect.specs.declared.without.Trial.{Trial}
@@ -86,12 +87,30 @@ under_all : (automatic : Bool) (run : Run) (label : Label) (all : List Trees) �
 under_all automatic run label all true = refl
 under_all automatic run label all false = sym (map-map (λ us. tree run label us) (under automatic) all)
 
-drops-under : (automatic : Bool) (t : Tree) → drops (under automatic t) ≡ t ∷ map (under automatic) (drops t)
-drops-under automatic (tree run label ts) = ap (λ rest. tree run label ts ∷ rest)
-    (ap₂ (λ x y. x ++ y)
-    (map-map (λ r. automatic ∷ r) (λ r. tree r label ts) (run_drops run) ∙ sym (map-map (λ r. tree r label ts) (under automatic) (run_drops run)))
-    (under_all automatic run label (all_drops ts) (is_closed label))
-    ∙ sym (map-append (under automatic) _ _))
+none-drop : (run : Run) → run_drops false run ≡ []
+none-drop [] = refl
+none-drop (flag ∷ run) = refl
+
+front-under : (automatic : Bool) (run : Run) (label : Label) (ts : Trees) (b : Bool) → b ≡ true
+    → map (λ r. tree r label ts) (run_drops b (automatic ∷ run)) ≡ tree run label ts ∷ map (under automatic) (map (λ r. tree r label ts) (run_drops b run))
+front-under automatic run label ts true h = ap (λ rest. tree run label ts ∷ rest)
+    (map-map (λ r. automatic ∷ r) (λ r. tree r label ts) (run_drops true run) ∙ sym (map-map (λ r. tree r label ts) (under automatic) (run_drops true run)))
+front-under automatic run label ts false h = cc
+
+front-kept : (automatic : Bool) (run : Run) (label : Label) (ts : Trees) (b : Bool) → b ≡ false
+    → map (λ r. tree r label ts) (run_drops b (automatic ∷ run)) ≡ map (under automatic) (map (λ r. tree r label ts) (run_drops b run))
+front-kept automatic run label ts true h = cc
+front-kept automatic run label ts false h = ap (λ all. map (under automatic) (map (λ r. tree r label ts) all)) (sym (none-drop run))
+
+drops-under : (automatic : Bool) (t : Tree) → may_be_range_like (label_of t) ≡ true → drops (under automatic t) ≡ t ∷ map (under automatic) (drops t)
+drops-under automatic (tree run label ts) may =
+    ap₂ (λ x y. x ++ y) (front-under automatic run label ts (may_be_range_like label) may) (under_all automatic run label (all_drops ts) (is_closed label))
+    ∙ ap (λ all. tree run label ts ∷ all) (sym (map-append (under automatic) _ _))
+
+drops-under-kept : (automatic : Bool) (t : Tree) → may_be_range_like (label_of t) ≡ false → drops (under automatic t) ≡ map (under automatic) (drops t)
+drops-under-kept automatic (tree run label ts) may =
+    ap₂ (λ x y. x ++ y) (front-kept automatic run label ts (may_be_range_like label) may) (under_all automatic run label (all_drops ts) (is_closed label))
+    ∙ sym (map-append (under automatic) _ _)
 
 -- ---- what is found, by class
 
@@ -114,14 +133,19 @@ pub without-call : (kind : Function) (ts : Trees) (number : ℕ) (part : TrialAl
     → IsWithout (drops (tree [] (call kind) ts)) number found
 without-call kind ts number part found h o = in_whole_all (λ us. tree [] (call kind) us) (all_drops ts) number part found h o
 
-pub without-first : (automatic : Bool) (t : Tree) → slice_get (drops (under automatic t)) 0 ≡ Some t
-without-first automatic t = ap (λ all. slice_get all 0) (drops-under automatic t)
+pub without-first : (automatic : Bool) (t : Tree) → may_be_range_like (label_of t) ≡ true → slice_get (drops (under automatic t)) 0 ≡ Some t
+without-first automatic t may = ap (λ all. slice_get all 0) (drops-under automatic t may)
 
-pub without-under : (automatic : Bool) (t : Tree) (number : ℕ) (part found : Trial) → number ≢ 0 → IsWithout (drops t) (number - 1) part → Over (under automatic) part found
+pub without-under : (automatic : Bool) (t : Tree) (number : ℕ) (part found : Trial) → may_be_range_like (label_of t) ≡ true → number ≢ 0 → IsWithout (drops t) (number - 1) part → Over (under automatic) part found
     → IsWithout (drops (under automatic t)) number found
-without-under automatic t number part found some h o =
-    subst (λ all. IsWithout all number found) (sym (drops-under automatic t))
+without-under automatic t number part found may some h o =
+    subst (λ all. IsWithout all number found) (sym (drops-under automatic t may))
     (behind (t ∷ []) (map (under automatic) (drops t)) number (number - 1) found (omega arith) (in_whole (under automatic) (drops t) (number - 1) part found h o))
+
+pub without-kept : (automatic : Bool) (t : Tree) (number : ℕ) (part found : Trial) → may_be_range_like (label_of t) ≡ false → IsWithout (drops t) number part → Over (under automatic) part found
+    → IsWithout (drops (under automatic t)) number found
+without-kept automatic t number part found may h o =
+    subst (λ all. IsWithout all number found) (sym (drops-under-kept automatic t may)) (in_whole (under automatic) (drops t) number part found h o)
 
 pub without-left : (operator : Binary) (t u : Tree) (number : ℕ) (part whole : Node) → slice_get (drops t) number ≡ Some (tree_of part) → tree_of whole ≡ between operator (tree_of part) u
     → slice_get (drops (between operator t u)) number ≡ Some (tree_of whole)
@@ -184,6 +208,8 @@ pub set-argument : (args : List Node) (i : ℕ) (arg node : Node) (number left :
     → slice_get (drops (tree_of arg)) left ≡ Some (tree_of node) → slice_get (all_drops (forest (map tree_of args))) number ≡ Some (forest (map tree_of (slice_set args i node)))
 set-argument args i arg node number left within is before h = set-count args i arg node left within is h number before
 
-pub ruleset withouts = (without-whole, without-unary, without-spill, without-call, without-first, without-under)
+pub ruleset withouts = (without-whole, without-unary, without-spill, without-call)
+
+pub ruleset unders = (without-first, without-under, without-kept)
 
 pub ruleset sides = (without-left, without-right)

@@ -5,6 +5,7 @@
 --                   what is wanted of them; a call wants one value of an argument that it takes as one and whose given shape is large
 --   binds           LET and LAMBDA
 --   is_whole_range_like  a node that is taken as a whole and may stand for many values
+--   may_be_range_like  a node over which import may put an `@`, by some table and some children
 --   is_range_like   a node that may stand for many values, by what its children show and by their shapes after import
 --   after, after_all  the shape of a formula after import, and of each of some formulas
 --   children_after  the shapes of a node's children after import, each in its context
@@ -69,6 +70,13 @@ abbrev pub is_whole_range_like : Label → Bool
 is_whole_range_like (leaf l) = is_range_like_leaf l
 is_whole_range_like (closed c) = is_range_operator c
 is_whole_range_like label = false
+
+abbrev pub may_be_range_like : Label → Bool
+may_be_range_like (leaf l) = is_range_like_leaf l
+may_be_range_like (passing p) = false
+may_be_range_like spill = false
+may_be_range_like (closed c) = is_range_operator c
+may_be_range_like (call kind) = not (binds kind)
 
 abbrev pub is_range_like : Table → Label → List Shown → List StaticResult → Bool
 is_range_like table (leaf l) shows after_import = is_range_like_leaf l

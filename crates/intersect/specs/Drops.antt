@@ -1,27 +1,28 @@
 -- The formulas with one `@` fewer.
---   run_drops   the runs with one flag fewer
---   drops       all formulas with one `@` fewer, but those whose dropped `@` stands inside of a node that import does not enter: in
---               the order of their dropped `@`s, from the front of the formula
+--   run_drops   the runs with one flag fewer, over a node over which import may put an `@`
+--   drops       all formulas with one `@` fewer, but those whose dropped `@` stands inside of a node that import does not enter, or
+--               over a node over which import never puts one: in the order of their dropped `@`s, from the front of the formula
 --   all_drops   so of some formulas
 --   IsWithout   what is found of so many drops at a number from 0: the formula, or how far the number is beyond
 --   IsWithoutAll  so of the drops of some formulas
 --   Over, OverAll  what was found, as a part of a whole
-use Rattle.std.specs.Prelude.{◌≡◌, ℕ, ◌+◌, List, [], ◌∷◌, ◌++◌, length, map, if◌then◌else◌, slice_get, Some}
+use Rattle.std.specs.Prelude.{◌≡◌, ℕ, ◌+◌, Bool, List, [], ◌∷◌, ◌++◌, length, map, if◌then◌else◌, slice_get, Some}
 use Rattle.tree_core.specs.Tree.{Run, Tree, tree, Trees, none, more, forest}
 use Rattle.tree_core.specs.Formula.{tree_of}
+use Rattle.intersect.specs.After.{may_be_range_like}
 use Rattle.intersect.specs.ImportRule.{is_closed}
 use Rattle.intersect.specs.declared.without.Trial.{Trial}
 use Rattle.intersect.specs.declared.without.Trial.TheVariants.{Formula, Beyond}
 use Rattle.intersect.specs.declared.without.TrialAll.{TrialAll}
 use Rattle.intersect.specs.declared.without.TrialAll.TheVariants.{Formulas, Beyond as BeyondAll}
 
-abbrev pub run_drops : Run → List Run
-run_drops [] = []
-run_drops (flag ∷ run) = run ∷ map (λ r. flag ∷ r) (run_drops run)
+abbrev pub run_drops : Bool → Run → List Run
+run_drops may [] = []
+run_drops may (flag ∷ run) = if may then run ∷ map (λ r. flag ∷ r) (run_drops may run) else []
 
 abbrev mutual
   pub drops : Tree → List Tree
-  drops (tree run label ts) = map (λ r. tree r label ts) (run_drops run) ++ (if is_closed label then [] else map (λ us. tree run label us) (all_drops ts))
+  drops (tree run label ts) = map (λ r. tree r label ts) (run_drops (may_be_range_like label) run) ++ (if is_closed label then [] else map (λ us. tree run label us) (all_drops ts))
 
   pub all_drops : Trees → List Trees
   all_drops none = []

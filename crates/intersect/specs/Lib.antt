@@ -11,4 +11,5 @@ pub mod Settled
 pub mod Dropped
 pub mod Exported
 pub mod Drops
+pub mod Stripped
 pub mod Export

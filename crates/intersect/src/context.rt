@@ -3,10 +3,11 @@ ghost use Rattle.kind_table.specs.Table.{Table};
 ghost use Rattle.tree_core.specs.Formula.{tree_of};
 ghost use Rattle.tree_core.specs.Tree.{label_of};
 ghost use Rattle.tree_class.specs.Class.{IsWhole};
-ghost use Rattle.intersect.specs.After.{binds, is_large, is_scalar, is_whole_range_like, signature_of, wants_one};
+ghost use Rattle.intersect.specs.After.{binds, is_large, is_scalar, is_whole_range_like, may_be_range_like, signature_of, wants_one};
 
 use crate::range_text::is_range_reference;
 use kind_table::{Kinds, Signature, StaticResult, own_signature};
+use tree_class::Class;
 use tree_core::{Function, Node};
 
 /// Whether a shape may be that of many values.
@@ -52,6 +53,19 @@ fn signature_of<K: Kinds>(kinds: &K, kind: Function, count: usize, index: usize)
     match kind {
         Function::Other(id) => kinds.signature(id, count, index),
         _ => own_signature(kind, count, index),
+    }
+}
+
+/// Whether import may put an `@` over a formula, or over the node under its `@`s.
+#[tactic(auto, using(crate::proofs::Classes::labels))]
+pub(crate) fn may_be_range_like(node: &Node) -> bool
+    ensures { result ≡ may_be_range_like (label_of (tree_of node.now)) }
+{
+    match Class::of(node) {
+        Class::Whole => is_whole_range_like(node),
+        Class::Call { kind, .. } => !binds(kind),
+        Class::Intersection { child, .. } => may_be_range_like(child),
+        Class::Unary { .. } | Class::Binary { .. } | Class::Spill { .. } => false,
     }
 }
 

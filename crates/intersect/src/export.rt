@@ -5,6 +5,7 @@ ghost use Rattle.intersect.specs.Export.{ComesBack, IsOnTheWay, IsSwept, IsTried
 ghost use Rattle.intersect.specs.Exported.{Exported};
 ghost use Rattle.intersect.specs.ImportRule.{import_rule};
 
+use crate::stripped::without_automatic;
 use crate::visit::visit;
 use crate::without::{Trial, without};
 use kind_table::Asks;
@@ -44,7 +45,7 @@ pub fn exported<K: Asks<Plain>>(
     ensures { IfOk result (λ export. Exported (import_rule (K.table kinds.now)) add (tree_of node.now) (tree_of export)) }
 {
     let mut steps = Steps::new(Plain);
-    let mut export = node.try_clone(alloc)?;
+    let mut export = first_try(alloc, node, add, kinds, &mut steps)?;
     let mut going = true;
     while going {
         let swept = sweep(alloc, node, export, add, kinds, &mut steps)?;
@@ -52,6 +53,27 @@ pub fn exported<K: Asks<Plain>>(
         export = swept.export;
     }
     Ok(export)
+}
+
+/// The formula without all the `@`s that import put, if its import comes back at once; else the formula as it is.
+#[tactic(auto, using(crate::proofs::Exports::first_tries))]
+fn first_try<K: Asks<L>, L>(
+    alloc: Global,
+    import: &Node,
+    add: bool,
+    kinds: &K,
+    steps: &mut Steps<L>,
+) -> Result<Node, Memory>
+    requires { ComesBack (K.table kinds.now) add (tree_of import.now) (tree_of import.now) }
+    ensures { IfOk result (λ export. IsOnTheWay (K.table kinds.now) add (tree_of import.now) (tree_of export)) }
+{
+    let bare = without_automatic(alloc, import)?;
+    if comes_back(alloc, import, &bare, add, kinds, steps)? {
+        return Ok(bare);
+    }
+    drop(bare);
+    let copy = import.try_clone(alloc)?;
+    Ok(copy)
 }
 
 /// What came of one drop.

@@ -8,14 +8,16 @@
 
 pub use export::{exported, remove_redundant_implicit_intersection};
 pub use import::{add_implicit_intersection, imported};
-pub use laws::{import_is_a_function, import_settles};
+pub use laws::{exports_come_back, import_is_a_function, import_settles};
 pub use range_text::is_range_reference;
 
 mod context;
 mod export;
 mod import;
 mod laws;
+mod over;
 mod range_text;
+mod stripped;
 #[cfg(test)]
 mod tests;
 mod visit;

@@ -10,8 +10,8 @@ ghost use Rattle.intersect.specs.After.{binds, is_large, is_whole_range_like};
 ghost use Rattle.intersect.specs.ImportOf.{is_bare};
 
 use crate::context::{binds, is_large, is_whole_range_like};
+use crate::over::{intersection_over, spill_over, unary_over};
 use kind_table::StaticResult;
-use own_items::Boxed as Box;
 use shape_core::whole_shape;
 use std::alloc::Global;
 use tree_class::{Class, Operator};
@@ -48,30 +48,21 @@ pub(crate) fn whole(alloc: Global, node: &Node, add: bool) -> Result<Visited, Me
 }
 
 /// A formula under an `@` that import puts.
-#[tactic(auto, using(tree_class::proofs::Trees::trees))]
 fn intersected(alloc: Global, node: Node) -> Result<Visited, Memory>
     ensures tree { IfOk result (λ visited. tree_of visited.node ≡ under true (tree_of node)) }
     ensures shape { IfOk result (λ visited. visited.shape ≡ Scalar) }
 {
-    let child = Box::new(alloc, node)?;
-    let node = Node::ImplicitIntersection {
-        automatic: true,
-        child,
-    };
-    Ok(Visited {
-        node,
-        shape: StaticResult::Scalar,
-    })
+    let node = intersection_over(alloc, true, node)?;
+    let shape = StaticResult::Scalar;
+    Ok(Visited { node, shape })
 }
 
-#[tactic(auto, using(tree_class::proofs::Trees::trees))]
 pub(crate) fn unary(alloc: Global, kind: OpUnary, right: Visited) -> Result<Visited, Memory>
     ensures tree { IfOk result (λ visited. tree_of visited.node ≡ tree [] (passing (unary kind)) (one (tree_of right.node))) }
     ensures shape { IfOk result (λ visited. visited.shape ≡ right.shape) }
 {
     let shape = right.shape;
-    let right = Box::new(alloc, right.node)?;
-    let node = Node::UnaryKind { kind, right };
+    let node = unary_over(alloc, kind, right.node)?;
     Ok(Visited { node, shape })
 }
 
@@ -89,17 +80,13 @@ pub(crate) fn between(
     Ok(Visited { node, shape })
 }
 
-#[tactic(auto, using(tree_class::proofs::Trees::trees))]
 pub(crate) fn spilled(alloc: Global, child: Visited) -> Result<Visited, Memory>
     ensures tree { IfOk result (λ visited. tree_of visited.node ≡ tree [] spill (one (tree_of child.node))) }
     ensures shape { IfOk result (λ visited. visited.shape ≡ Unknown) }
 {
-    let child = Box::new(alloc, child.node)?;
-    let node = Node::SpillRangeOperator { child };
-    Ok(Visited {
-        node,
-        shape: StaticResult::Unknown,
-    })
+    let node = spill_over(alloc, child.node)?;
+    let shape = StaticResult::Unknown;
+    Ok(Visited { node, shape })
 }
 
 /// A call over its imported arguments, which has this shape.

@@ -5,7 +5,8 @@ ghost use Rattle.tree_core.specs.Tree.{tree, forest, under};
 ghost use Rattle.tree_class.specs.Class.{operator_of};
 ghost use Rattle.intersect.specs.Drops.{all_drops, drops, IsWithout, IsWithoutAll, Over, OverAll};
 
-use own_items::Boxed as Box;
+use crate::context::may_be_range_like;
+use crate::over::{intersection_over, spill_over, unary_over};
 use std::alloc::Global;
 use tree_class::{Class, Operator};
 use tree_core::{Function, Memory, Node, Nodes, OpUnary, clone_nodes};
@@ -24,8 +25,8 @@ pub(crate) enum TrialAll {
     Beyond(usize),
 }
 
-/// The formula without the `@` of a number, from 0 in the order in which they stand, those aside that import does not come to
-/// whatever the formula.
+/// The formula without the `@` of a number, from 0 in the order in which they stand, those aside that import would never put back:
+/// inside of a node that it does not enter, and over one that never may stand for many values.
 #[cycle(without)]
 #[tactic(auto, using(crate::proofs::Withouts::withouts))]
 pub(crate) fn without(alloc: Global, node: &Node, number: usize) -> Result<Trial, Memory>
@@ -56,16 +57,35 @@ pub(crate) fn without(alloc: Global, node: &Node, number: usize) -> Result<Trial
             let found = in_call(alloc, kind, args)?;
             Ok(found)
         }
-        Class::Intersection { child, .. } if number == 0 => {
-            let child = child.try_clone(alloc)?;
-            Ok(Trial::Formula(child))
-        }
         Class::Intersection { automatic, child } => {
-            let child = without(alloc, child, number - 1)?;
-            let found = in_intersection(alloc, automatic, child)?;
+            let found = without_intersection(alloc, automatic, child, number)?;
             Ok(found)
         }
     }
+}
+
+#[cycle(without)]
+#[tactic(auto, using(crate::proofs::Withouts::unders))]
+fn without_intersection(
+    alloc: Global,
+    automatic: bool,
+    child: &Node,
+    number: usize,
+) -> Result<Trial, Memory>
+    ensures { IfOk result (λ found. IsWithout (drops (under automatic (tree_of child.now))) number found) }
+{
+    if !may_be_range_like(child) {
+        let child = without(alloc, child, number)?;
+        let found = in_intersection(alloc, automatic, child)?;
+        return Ok(found);
+    }
+    if number == 0 {
+        let child = child.try_clone(alloc)?;
+        return Ok(Trial::Formula(child));
+    }
+    let child = without(alloc, child, number - 1)?;
+    let found = in_intersection(alloc, automatic, child)?;
+    Ok(found)
 }
 
 #[cycle(without)]
@@ -130,14 +150,13 @@ fn put_at(nodes: &mut Nodes, index: usize, node: Node)
     }
 }
 
-#[tactic(auto, using(tree_class::proofs::Trees::trees))]
 fn in_unary(alloc: Global, kind: OpUnary, right: Trial) -> Result<Trial, Memory>
     ensures { IfOk result (λ found. Over (λ t. tree [] (passing (unary kind)) (one t)) right found) }
 {
     match right {
         Trial::Formula(node) => {
-            let right = Box::new(alloc, node)?;
-            Ok(Trial::Formula(Node::UnaryKind { kind, right }))
+            let whole = unary_over(alloc, kind, node)?;
+            Ok(Trial::Formula(whole))
         }
         Trial::Beyond(number) => Ok(Trial::Beyond(number)),
     }
@@ -156,14 +175,13 @@ fn in_right(alloc: Global, operator: Operator, left: &Node, right: Trial) -> Res
     }
 }
 
-#[tactic(auto, using(tree_class::proofs::Trees::trees))]
 fn in_spill(alloc: Global, child: Trial) -> Result<Trial, Memory>
     ensures { IfOk result (λ found. Over (λ t. tree [] spill (one t)) child found) }
 {
     match child {
         Trial::Formula(node) => {
-            let child = Box::new(alloc, node)?;
-            Ok(Trial::Formula(Node::SpillRangeOperator { child }))
+            let whole = spill_over(alloc, node)?;
+            Ok(Trial::Formula(whole))
         }
         Trial::Beyond(number) => Ok(Trial::Beyond(number)),
     }
@@ -179,14 +197,13 @@ fn in_call(alloc: Global, kind: Function, args: TrialAll) -> Result<Trial, Memor
     }
 }
 
-#[tactic(auto, using(tree_class::proofs::Trees::trees))]
 fn in_intersection(alloc: Global, automatic: bool, child: Trial) -> Result<Trial, Memory>
     ensures { IfOk result (λ found. Over (λ t. under automatic t) child found) }
 {
     match child {
         Trial::Formula(node) => {
-            let child = Box::new(alloc, node)?;
-            Ok(Trial::Formula(Node::ImplicitIntersection { automatic, child }))
+            let whole = intersection_over(alloc, automatic, node)?;
+            Ok(Trial::Formula(whole))
         }
         Trial::Beyond(number) => Ok(Trial::Beyond(number)),
     }

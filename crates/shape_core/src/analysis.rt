@@ -1,4 +1,5 @@
-ghost use Rattle.std.specs.Prelude.{◌≡◌, IfOk, map};
+ghost use Rattle.std.specs.Prelude.{◌≡◌, ◌+◌, ◌≤◌, IfOk, map};
+ghost use Rattle.tree_core.specs.Count.{calls_of, calls_of_all};
 ghost use Rattle.tree_core.specs.Formula.{tree_of};
 ghost use Rattle.tree_core.specs.Tree.{forest};
 ghost use Rattle.shape_core.specs.Shape.{call_shape, shape, shapes, shown_all};
@@ -10,8 +11,7 @@ use std::alloc::Global;
 use tree_class::Class;
 use tree_core::{Function, Memory, Node, Nodes, Steps};
 
-/// The shape of a formula by a table of kinds, which is asked once for each call of one of its kinds that isn't under an `@`,
-/// a named call or a lambda.
+/// The shape of a formula by a table of kinds, which is asked at most once for each call.
 #[cycle(analysis)]
 #[tactic(auto, using(crate::proofs::Shapes::shaped))]
 pub fn run_static_analysis_on_node<K: Asks<L>, L>(
@@ -20,7 +20,8 @@ pub fn run_static_analysis_on_node<K: Asks<L>, L>(
     kinds: &K,
     steps: &mut Steps<L>,
 ) -> Result<StaticResult, Memory>
-    ensures { IfOk result (λ found. found ≡ shape (K.table kinds.now) (tree_of node.now)) }
+    ensures value { IfOk result (λ found. found ≡ shape (K.table kinds.now) (tree_of node.now)) }
+    ensures counted { steps.new ≤ steps.old + calls_of (tree_of node.now) }
 {
     match Class::of(node) {
         Class::Whole => Ok(whole_shape(node)),
@@ -42,7 +43,7 @@ pub fn run_static_analysis_on_node<K: Asks<L>, L>(
     }
 }
 
-/// The shape of each of some formulas, in their order.
+/// The shape of each of some formulas, in their order. The table is asked at most once for each call.
 #[cycle(analysis)]
 pub fn shapes_of<K: Asks<L>, L>(
     alloc: Global,
@@ -50,7 +51,8 @@ pub fn shapes_of<K: Asks<L>, L>(
     kinds: &K,
     steps: &mut Steps<L>,
 ) -> Result<Vec<StaticResult>, Memory>
-    ensures { IfOk result (λ found. found.items ≡ map (λ arg. shape (K.table kinds.now) (tree_of arg)) args.now) }
+    ensures value { IfOk result (λ found. found.items ≡ map (λ arg. shape (K.table kinds.now) (tree_of arg)) args.now) }
+    ensures counted { steps.new ≤ steps.old + calls_of_all (forest (map tree_of args.now)) }
 {
     let mut found = Vec::new(alloc);
     for arg in args.as_slice() {
@@ -59,7 +61,7 @@ pub fn shapes_of<K: Asks<L>, L>(
     Ok(found)
 }
 
-/// The shape of a call over its arguments and the shape of each, in their order.
+/// The shape of a call over its arguments and the shape of each, in their order. The table is asked at most once.
 pub fn call_shape<K: Asks<L>, L>(
     kind: Function,
     args: &Nodes,
@@ -67,7 +69,8 @@ pub fn call_shape<K: Asks<L>, L>(
     kinds: &K,
     steps: &mut Steps<L>,
 ) -> StaticResult
-    ensures { result ≡ call_shape (K.table kinds.now) kind (shown_all (forest (map tree_of args.now))) shapes.now }
+    ensures value { result ≡ call_shape (K.table kinds.now) kind (shown_all (forest (map tree_of args.now))) shapes.now }
+    ensures counted { steps.new ≤ steps.old + 1 }
 {
     match kind {
         Function::Other(id) => kinds.shape(id, shapes, steps),

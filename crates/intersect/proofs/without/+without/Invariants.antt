@@ -13,6 +13,9 @@ decreases-without l = 2 * size-Node l.node.now
 abbrev pub decreases-without_side : goal.decreases-without_side
 decreases-without_side l = 2 * max (size-Node l.left.now) (size-Node l.right.now) + 1
 
+abbrev pub decreases-without_intersection : goal.decreases-without_intersection
+decreases-without_intersection l = 2 * size-Node l.child.now + 1
+
 abbrev pub decreases-without_argument : goal.decreases-without_argument
 decreases-without_argument l = 2 * most size-Node l.args.now + 1
 
