@@ -1,6 +1,5 @@
 -- The shapes of trees, from those of their parts.
 use Rattle.std.proofs.Common.{◌≡◌, List, [], ◌∷◌, map, refl, ap}
-use Rattle.call_core.specs.declared.function.Function.{Function}
 use Rattle.tree_core.specs.Formula.{tree_of}
 use Rattle.tree_core.specs.Label.{leaf, passing, spill, closed, call}
 use Rattle.tree_core.specs.Tree.{Tree, tree, forest}

@@ -12,13 +12,12 @@
 --   call_shape     a call over what its arguments show and over their shapes: by the rows of the own kinds, and by the table
 --   node_shape     a bare node over what its children show and over their shapes
 --   shape, shapes  a formula, and each of some formulas. What stands under an `@` is one value
-use Rattle.std.specs.Prelude.{◌≡◌, ℕ, ◌==◌, ℤ, pos, ◌+ℤ◌, ◌-ℤ◌, int_le, Bool, true, false, ◌&&◌, not, if◌then◌else◌, List, [], ◌∷◌, length, Option, Some, None, min, max}
+use Rattle.std.specs.Prelude.{ℕ, ℤ, pos, ◌+ℤ◌, ◌-ℤ◌, int_le, Bool, true, false, ◌&&◌, not, if◌then◌else◌, List, [], ◌∷◌, length, Option, Some, None, min, max}
 use Rattle.std.specs.Int.{int_max, int_min}
-use Rattle.std.specs.Option.{option_map_or}
 use Rattle.call_core.specs.declared.function.Function.{Function}
 use Rattle.call_core.specs.declared.function.Function.TheVariants.{Other}
 use Rattle.tree_core.specs.declared.array.ArrayNode.{ArrayNode}
-use Rattle.tree_core.specs.Label.{Corner, Leaf, boolean, number, string, error, empty, reference, range, wrong_reference, wrong_range, array, defined_name, table_name, named_variable, parse_error, Label, leaf, passing, spill, closed, call}
+use Rattle.tree_core.specs.Label.{Corner, Leaf, number, reference, range, array, defined_name, table_name, Label, leaf, passing, spill, closed, call}
 use Rattle.tree_core.specs.Tree.{Tree, tree, Trees, none, more}
 use Rattle.kind_table.specs.declared.shown.Shown.{Shown}
 use Rattle.kind_table.specs.declared.shown.Shown.TheVariants.{Range as BareRange, Reference as BareReference, One as BareOne, Nothing}
