@@ -13,3 +13,4 @@ pub mod Fixed
 pub mod Exports
 pub mod Sizes
 pub mod Strips
+pub mod Parts

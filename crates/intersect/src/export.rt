@@ -6,7 +6,7 @@ ghost use Rattle.intersect.specs.Exported.{Exported};
 ghost use Rattle.intersect.specs.ImportRule.{import_rule};
 
 use crate::stripped::without_automatic;
-use crate::visit::visit;
+use crate::visit::import_of;
 use crate::without::{Trial, without};
 use kind_table::Asks;
 use std::alloc::Global;
@@ -105,7 +105,7 @@ fn comes_back<K: Asks<L>, L>(
 ) -> Result<bool, Memory>
     ensures { IfOk result (λ back. IsTrue back ↔ ComesBack (K.table kinds.now) add (tree_of import.now) (tree_of formula.now)) }
 {
-    let visited = visit(alloc, formula, add, kinds, steps)?;
+    let visited = import_of(alloc, formula, add, kinds, steps)?;
     let back = visited.node.same_but_flags(import);
     drop(visited);
     Ok(back)

@@ -5,7 +5,7 @@ ghost use Rattle.intersect.specs.Export.{ComesBack};
 ghost use Rattle.intersect.specs.ImportRule.{import_rule};
 ghost use Rattle.intersect.specs.Imported.{Imported};
 
-use crate::visit::visit;
+use crate::visit::import_of;
 use kind_table::Asks;
 use std::alloc::Global;
 use tree_core::{Memory, Node, Plain, Steps};
@@ -43,6 +43,6 @@ pub fn imported<K: Asks<Plain>>(
     ensures size { IfOk result (λ import. size_of (tree_of import) ≤ 2 * size_of (tree_of node.now)) }
 {
     let mut steps = Steps::new(Plain);
-    let visited = visit(alloc, node, add, kinds, &mut steps)?;
+    let visited = import_of(alloc, node, add, kinds, &mut steps)?;
     Ok(visited.node)
 }

@@ -1,7 +1,9 @@
 -- Import goes on to the parts of a node, and from a call to the deepest of its arguments.
-use Rattle.std.proofs.Common.{◌≡◌, map, ℕ, ◌+◌, ◌*◌, take}
+use Rattle.std.proofs.Common.{◌≡◌, map, ℕ, ◌+◌, ◌*◌, ◌≤◌, drop, take}
 use denote.Param.Weighed.{most}
+use Rattle.tree_core.specs.Count.{calls_of_all}
 use Rattle.tree_core.specs.Formula.{tree_of}
+use Rattle.tree_core.specs.Tree.{forest}
 use Rattle.tree_core.specs.declared.node.Node.{size-Node}
 use Rattle.intersect.specs.After.{after, wants_one}
 use Rattle.intersect.specs.Arguments.{each}
@@ -20,6 +22,7 @@ decreases-visit_all g l = 3 * most size-Node l.args.now + 1
 
 abbrev pub invariant-visit_all-loop-index : goal.invariant-visit_all-loop-index
 invariant-visit_all-loop-index g l = record {
-  trees : map tree_of l.nodes ≡ each (λ i arg. import_of (import_rule (g.K.Kinds.table l.kinds)) (wants_one (g.K.Kinds.table l.kinds) l.kind l.given i) (tree_of arg)) (take l.index l.arg-items);
-  shapes : l.shapes.items ≡ each (λ i arg. after (g.K.Kinds.table l.kinds) (wants_one (g.K.Kinds.table l.kinds) l.kind l.given i) (tree_of arg)) (take l.index l.arg-items);
+  trees : map tree_of l.nodes ≡ each (λ i arg. import_of (import_rule (g.K.Kinds.table l.kinds)) (wants_one (g.K.Kinds.table l.kinds) l.kind l.given_shapes i) (tree_of arg)) (take l.index l.arg-items);
+  shapes : l.shapes.items ≡ each (λ i arg. after (g.K.Kinds.table l.kinds) (wants_one (g.K.Kinds.table l.kinds) l.kind l.given_shapes i) (tree_of arg)) (take l.index l.arg-items);
+  counted : l.steps + calls_of_all (forest (map tree_of (drop l.index l.arg-items))) ≤ l.initial.steps + calls_of_all (forest (map tree_of l.arg-items));
 }
