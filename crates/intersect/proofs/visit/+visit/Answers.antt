@@ -15,8 +15,8 @@ visit_all-loop-index-preserved g t c = record {
 
 pub visit_call-returns-clause-tree : goal.visit_call-returns-clause-tree
 visit_call-returns-clause-tree g t c = c.in_ok-call.ensures.tree
-    ∙ call-tree _ _ _ _ _ _ _ _ (c.as_slice.ensures.value ∙ c.in_ok-given.ensures) c.in_ok-visited.ensures.trees (c.as_slice-2.ensures.value ∙ c.in_ok-visited.ensures.shapes) c.call_shape-shape.ensures
+    ∙ call-tree _ _ _ _ _ _ _ _ (c.as_slice.ensures.value ∙ c.in_ok-given.ensures.value) c.in_ok-visited.ensures.trees (c.as_slice-2.ensures.value ∙ c.in_ok-visited.ensures.shapes) c.call_shape-shape.ensures.value
 
 pub visit_call-returns-clause-shape : goal.visit_call-returns-clause-shape
 visit_call-returns-clause-shape g t c = c.in_ok-call.ensures.shape
-    ∙ call-shape _ _ _ _ _ _ _ _ (c.as_slice.ensures.value ∙ c.in_ok-given.ensures) c.in_ok-visited.ensures.trees (c.as_slice-2.ensures.value ∙ c.in_ok-visited.ensures.shapes) c.call_shape-shape.ensures
+    ∙ call-shape _ _ _ _ _ _ _ _ (c.as_slice.ensures.value ∙ c.in_ok-given.ensures.value) c.in_ok-visited.ensures.trees (c.as_slice-2.ensures.value ∙ c.in_ok-visited.ensures.shapes) c.call_shape-shape.ensures.value
