@@ -1,4 +1,4 @@
-ghost use Rattle.std.specs.Prelude.{◌*◌, ◌≤◌, IfOk};
+ghost use Rattle.std.specs.Prelude.{◌≤◌, IfOk};
 ghost use Rattle.tree_core.specs.Count.{size_of};
 ghost use Rattle.tree_core.specs.Formula.{tree_of};
 ghost use Rattle.intersect.specs.Export.{ComesBack};
@@ -74,14 +74,48 @@ fn exports<K: Asks<Plain>>(
     given: &str,
     wanted: [&str; 2],
 ) -> Result<bool, Fail> {
-    let mut node = own_import(alloc, kinds, add, given)?;
-    let export = exported(alloc, &node, add, kinds)?;
-    let new = is_one_of(alloc, &export, wanted)?;
-    drop(export);
-    remove_redundant_implicit_intersection(alloc, &mut node, add, kinds)?;
-    let in_place = is_one_of(alloc, &node, wanted)?;
-    drop(node);
+    let new = exports_anew(alloc, kinds, add, given, wanted)?;
+    let in_place = exports_in_place(alloc, kinds, add, given, wanted)?;
     Ok(new && in_place)
+}
+
+fn exports_anew<K: Asks<Plain>>(
+    alloc: Global,
+    kinds: &K,
+    add: bool,
+    given: &str,
+    wanted: [&str; 2],
+) -> Result<bool, Fail> {
+    let export = export_of(alloc, kinds, add, given)?;
+    let right = is_one_of(alloc, &export, wanted)?;
+    drop(export);
+    Ok(right)
+}
+
+fn export_of<K: Asks<Plain>>(
+    alloc: Global,
+    kinds: &K,
+    add: bool,
+    given: &str,
+) -> Result<Node, Fail> {
+    let node = own_import(alloc, kinds, add, given)?;
+    let export = exported(alloc, &node, add, kinds)?;
+    drop(node);
+    Ok(export)
+}
+
+fn exports_in_place<K: Asks<Plain>>(
+    alloc: Global,
+    kinds: &K,
+    add: bool,
+    given: &str,
+    wanted: [&str; 2],
+) -> Result<bool, Fail> {
+    let mut node = own_import(alloc, kinds, add, given)?;
+    remove_redundant_implicit_intersection(alloc, &mut node, add, kinds)?;
+    let right = is_one_of(alloc, &node, wanted)?;
+    drop(node);
+    Ok(right)
 }
 
 /// The formula of some words, which has to be its own import.
