@@ -5,6 +5,7 @@ use std::alloc::Global;
 use std::process::Abort;
 use std::test::Fail;
 
+mod exports;
 mod formula;
 
 /// Formulas of which one value is wanted, and what they are imported as.
@@ -68,6 +69,8 @@ fn formulas_are_imported(rt: HostRuntime) -> Result<(), Fail> {
         imports(&rt, alloc, false, given, wanted)?;
     }
     import_is_a_function();
+    import_settles();
+    exports_come_back();
     Ok(())
 }
 

@@ -3,13 +3,13 @@ use kind_table::function_named;
 use own_items::Boxed;
 use std::alloc::Global;
 use std::test::Fail;
-use tree_core::{DefinedNameS, Node, Nodes, OpSum, OpUnary, Text, Texts};
+use tree_core::{DefinedNameS, Function, Node, Nodes, OpSum, OpUnary, Text, Texts};
 
 /// The formula of some words, each operator and call behind its operands.
 ///
 /// `@` is one that a person put, `~` one that import did. A call has the count of its arguments behind a `/`, where `f` is a
-/// named call, and `apply` calls the lambda that stands before its arguments. A word that means nothing else is a defined name
-/// with this text.
+/// named call, `apply` calls the lambda that stands before its arguments, and `P` is the kind of number 0. A word that means
+/// nothing else is a defined name with this text.
 pub(super) fn formula(alloc: Global, words: &str) -> Result<Node, Fail> {
     let mut stack = Vec::new(alloc);
     for word in words.split_whitespace() {
@@ -27,6 +27,7 @@ fn leaf(alloc: Global, word: &str, stack: &mut Vec<Node>) -> Result<Node, Fail> 
         "A1:A3" => Ok(range(1, 1, 3)),
         "A1:A5" => Ok(range(1, 1, 5)),
         "B1:B3" => Ok(range(2, 1, 3)),
+        "C1:C3" => Ok(range(3, 1, 3)),
         "J:J" => Ok(range(10, 1, 1048576)),
         "1" => Ok(Node::NumberKind(1000000)),
         "2" => Ok(Node::NumberKind(2000000)),
@@ -92,6 +93,10 @@ fn call(alloc: Global, name: &str, count: &str, stack: &mut Vec<Node>) -> Result
         }),
         "apply" => Ok(Node::LambdaCallKind {
             lambda: operand(alloc, stack)?,
+            args,
+        }),
+        "P" => Ok(Node::FunctionKind {
+            kind: Function::Other(0),
             args,
         }),
         _ => Ok(Node::FunctionKind {

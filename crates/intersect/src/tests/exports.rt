@@ -1,0 +1,152 @@
+ghost use Rattle.std.specs.Prelude.{◌≤◌, IfOk};
+ghost use Rattle.tree_core.specs.Count.{size_of};
+ghost use Rattle.tree_core.specs.Formula.{tree_of};
+ghost use Rattle.intersect.specs.Export.{ComesBack};
+
+use super::formula::formula;
+use crate::{exported, imported, remove_redundant_implicit_intersection};
+use kind_table::{Asks, CrateKinds, PairKinds};
+use std::alloc::Global;
+use std::test::Fail;
+use tree_core::{Node, Plain};
+
+/// Imported formulas of which one value is wanted, and the only formula that each is exported as.
+static WANTED: [(&str, &str); 12] = [
+    ("A1:A3 @ 1 + SIN/1", "A1:A3 @ 1 + SIN/1"),
+    ("A1:A5 @ SIN/1 @", "A1:A5 @ SIN/1 @"),
+    ("A1:A5 B1:B3 ~ INDEX/2 ~", "A1:A5 B1:B3 INDEX/2"),
+    (
+        "A1:A3 ~ B1:B3 1 INDEX/2 ~ + SIN/1",
+        "A1:A3 B1:B3 1 INDEX/2 + SIN/1",
+    ),
+    ("A1:A5 ~ 1 2 CHOOSE/3", "A1:A5 1 2 CHOOSE/3"),
+    ("x ~", "x"),
+    ("Sheet1!A1:B3 ~", "Sheet1!A1:B3"),
+    ("A1:A5 B1:B3 SUM/2", "A1:A5 B1:B3 SUM/2"),
+    ("A1:A3 ~ % #", "A1:A3 % #"),
+    ("x ~ lambda", "x ~ lambda"),
+    ("A1:A3 @ @ f/1 x ~ +", "A1:A3 @ @ f/1 x +"),
+    ("A1:A3 x @ ~ : ~", "A1:A3 x @ ~ :"),
+];
+
+/// Imported formulas of which no one value is wanted.
+static NOT_WANTED: [(&str, &str); 2] = [
+    ("x ~", "x ~"),
+    ("A1:A5 B1:B3 ~ INDEX/2", "A1:A5 B1:B3 INDEX/2"),
+];
+
+#[test]
+fn formulas_are_exported(rt: HostRuntime) -> Result<(), Fail> {
+    let alloc = rt.alloc();
+    for &(given, wanted) in &WANTED {
+        let right = exports(alloc, &CrateKinds, true, given, [wanted, wanted])?;
+        assert!(rt; right, "{given}");
+    }
+    for &(given, wanted) in &NOT_WANTED {
+        let right = exports(alloc, &CrateKinds, false, given, [wanted, wanted])?;
+        assert!(rt; right, "{given}");
+    }
+    Ok(())
+}
+
+/// Either `@` can go, but not both, since one value would then be wanted of the whole argument.
+#[test]
+fn one_of_two_exports_is_given(rt: HostRuntime) -> Result<(), Fail> {
+    let right = exports(
+        rt.alloc(),
+        &PairKinds,
+        true,
+        "A1:A3 @ B1:B3 @ P/2 C1:C3 + FORMULATEXT/1",
+        [
+            "A1:A3 B1:B3 @ P/2 C1:C3 + FORMULATEXT/1",
+            "A1:A3 @ B1:B3 P/2 C1:C3 + FORMULATEXT/1",
+        ],
+    )?;
+    assert!(rt; right);
+    Ok(())
+}
+
+/// Whether a formula is exported as one of two, as a new formula and in its place.
+fn exports<K: Asks<Plain>>(
+    alloc: Global,
+    kinds: &K,
+    add: bool,
+    given: &str,
+    wanted: [&str; 2],
+) -> Result<bool, Fail> {
+    let new = exports_anew(alloc, kinds, add, given, wanted)?;
+    let in_place = exports_in_place(alloc, kinds, add, given, wanted)?;
+    Ok(new && in_place)
+}
+
+fn exports_anew<K: Asks<Plain>>(
+    alloc: Global,
+    kinds: &K,
+    add: bool,
+    given: &str,
+    wanted: [&str; 2],
+) -> Result<bool, Fail> {
+    let export = export_of(alloc, kinds, add, given)?;
+    let right = is_one_of(alloc, &export, wanted)?;
+    drop(export);
+    Ok(right)
+}
+
+fn export_of<K: Asks<Plain>>(
+    alloc: Global,
+    kinds: &K,
+    add: bool,
+    given: &str,
+) -> Result<Node, Fail> {
+    let node = own_import(alloc, kinds, add, given)?;
+    let export = exported(alloc, &node, add, kinds)?;
+    drop(node);
+    Ok(export)
+}
+
+fn exports_in_place<K: Asks<Plain>>(
+    alloc: Global,
+    kinds: &K,
+    add: bool,
+    given: &str,
+    wanted: [&str; 2],
+) -> Result<bool, Fail> {
+    let mut node = own_import(alloc, kinds, add, given)?;
+    remove_redundant_implicit_intersection(alloc, &mut node, add, kinds)?;
+    let right = is_one_of(alloc, &node, wanted)?;
+    drop(node);
+    Ok(right)
+}
+
+/// The formula of some words, which has to be its own import.
+fn own_import<K: Asks<Plain>>(
+    alloc: Global,
+    kinds: &K,
+    add: bool,
+    words: &str,
+) -> Result<Node, Fail>
+    ensures own_import { IfOk result (λ node. ComesBack (K.table kinds.now) add (tree_of node) (tree_of node)) }
+    ensures size { IfOk result (λ node. size_of (tree_of node) ≤ 100) }
+{
+    let node = formula(alloc, words)?;
+    let import = imported(alloc, &node, add, kinds)?;
+    let own = import == node && import.has_at_most(100);
+    drop(node);
+    if own {
+        Ok(import)
+    } else {
+        drop(import);
+        Err("no import of its own".into())
+    }
+}
+
+fn is_one_of(alloc: Global, node: &Node, wanted: [&str; 2]) -> Result<bool, Fail> {
+    Ok(is(alloc, node, wanted[0])? || is(alloc, node, wanted[1])?)
+}
+
+fn is(alloc: Global, node: &Node, words: &str) -> Result<bool, Fail> {
+    let wanted = formula(alloc, words)?;
+    let same = *node == wanted;
+    drop(wanted);
+    Ok(same)
+}
