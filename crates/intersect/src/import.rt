@@ -1,5 +1,5 @@
-ghost use Rattle.std.specs.Prelude.{◌≡◌, ◌*◌, ◌≤◌, IfOk, OnOk, OnErr};
-ghost use Rattle.tree_core.specs.Count.{size_of};
+ghost use Rattle.std.specs.Prelude.{◌≡◌, ◌+◌, ◌*◌, ◌≤◌, IfOk, OnOk, OnErr};
+ghost use Rattle.tree_core.specs.Count.{calls_of, size_of};
 ghost use Rattle.tree_core.specs.Formula.{tree_of};
 ghost use Rattle.intersect.specs.Export.{ComesBack};
 ghost use Rattle.intersect.specs.ImportRule.{import_rule};
@@ -26,7 +26,26 @@ pub fn add_implicit_intersection<K: Asks<Plain>>(
     ensures size { OnOk result (size_of (tree_of node.new) ≤ 2 * size_of (tree_of node.old)) }
     ensures memory { OnErr result (node.new ≡ node.old) }
 {
-    let import = imported(alloc, node, add, kinds)?;
+    let mut steps = Steps::new(Plain);
+    import_counted(alloc, node, add, kinds, &mut steps)?;
+    Ok(())
+}
+
+/// The same, with a counter of questions to the table: it is asked at most twice for each call.
+pub fn import_counted<K: Asks<L>, L>(
+    alloc: Global,
+    node: &mut Node,
+    add: bool,
+    kinds: &K,
+    steps: &mut Steps<L>,
+) -> Result<(), Memory>
+    ensures ok { OnOk result (Imported (import_rule (K.table kinds.now)) add (tree_of node.old) (tree_of node.new)) }
+    ensures own_import { OnOk result (ComesBack (K.table kinds.now) add (tree_of node.new) (tree_of node.new)) }
+    ensures size { OnOk result (size_of (tree_of node.new) ≤ 2 * size_of (tree_of node.old)) }
+    ensures memory { OnErr result (node.new ≡ node.old) }
+    ensures counted { steps.new ≤ steps.old + 2 * calls_of (tree_of node.old) }
+{
+    let import = import_new(alloc, node, add, kinds, steps)?;
     *node = import;
     Ok(())
 }
@@ -43,6 +62,22 @@ pub fn imported<K: Asks<Plain>>(
     ensures size { IfOk result (λ import. size_of (tree_of import) ≤ 2 * size_of (tree_of node.now)) }
 {
     let mut steps = Steps::new(Plain);
-    let visited = import_of(alloc, node, add, kinds, &mut steps)?;
+    let import = import_new(alloc, node, add, kinds, &mut steps)?;
+    Ok(import)
+}
+
+fn import_new<K: Asks<L>, L>(
+    alloc: Global,
+    node: &Node,
+    add: bool,
+    kinds: &K,
+    steps: &mut Steps<L>,
+) -> Result<Node, Memory>
+    ensures ok { IfOk result (λ import. Imported (import_rule (K.table kinds.now)) add (tree_of node.now) (tree_of import)) }
+    ensures own_import { IfOk result (λ import. ComesBack (K.table kinds.now) add (tree_of import) (tree_of import)) }
+    ensures size { IfOk result (λ import. size_of (tree_of import) ≤ 2 * size_of (tree_of node.now)) }
+    ensures counted { steps.new ≤ steps.old + 2 * calls_of (tree_of node.now) }
+{
+    let visited = import_of(alloc, node, add, kinds, steps)?;
     Ok(visited.node)
 }

@@ -7,7 +7,7 @@
 #![tactic(auto)]
 
 pub use export::{exported, remove_redundant_implicit_intersection};
-pub use import::{add_implicit_intersection, imported};
+pub use import::{add_implicit_intersection, import_counted, imported};
 pub use laws::{exports_come_back, import_is_a_function, import_settles};
 pub use range_text::is_range_reference;
 

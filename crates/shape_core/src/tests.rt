@@ -140,6 +140,31 @@ fn shape_of(alloc: Global, node: &Node) -> Result<StaticResult, Memory> {
     run_static_analysis_on_node(alloc, node, &CrateKinds, &mut steps)
 }
 
+/// The shapes of a formula, of its first part and of that one's first part, and those of its parts.
+fn shapes_down(
+    alloc: Global,
+    node: &Node,
+) -> Result<(StaticResult, Option<StaticResult>, Vec<StaticResult>), Memory> {
+    let mut steps = Steps::new(Plain);
+    let all = analysed(alloc, node, &CrateKinds, &mut steps)?;
+    let first = all
+        .part(0)
+        .and_then(|part| part.part(0))
+        .map(|part| part.shape());
+    Ok((all.shape(), first, all.part_shapes(alloc)?))
+}
+
+#[test]
+fn the_parts_of_a_formula_have_theirs(rt: HostRuntime) -> Result<(), Fail> {
+    let alloc = rt.alloc();
+    let both = call(alloc, Function::Choose, at(alloc, range(IN_ROW))?, &[7])?;
+    let (whole, below, parts) = shapes_down(alloc, &both)?;
+    assert_eq!(rt; whole, Scalar);
+    assert_eq!(rt; below, Some(Range(1, 5)));
+    assert_eq!(rt; parts.as_slice(), [Scalar, Scalar].as_slice());
+    Ok(())
+}
+
 #[test]
 fn whole_formulas_have_their_shapes(rt: HostRuntime) -> Result<(), Fail> {
     let alloc = rt.alloc();

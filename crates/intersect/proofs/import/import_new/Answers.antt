@@ -9,7 +9,7 @@ use Rattle.intersect.specs.ImportRule.{import_rule}
 use Rattle.intersect.proofs.Exists.{imports_since}
 use Rattle.intersect.proofs.Settle.{settled}
 use Rattle.intersect.proofs.Sizes.{size_since}
-use Rattle.intersect.proofs.import.imported.Goals as goal
+use Rattle.intersect.proofs.import.import_new.Goals as goal
 
 pub returns-clause-ok : goal.returns-clause-ok
 returns-clause-ok g c = imports_since _ _ _ _ c.in_ok-visited.ensures.tree
