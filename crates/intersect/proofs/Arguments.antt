@@ -7,7 +7,7 @@ use Rattle.call_core.specs.declared.function.Function.{Function}
 use Rattle.kind_table.specs.declared.static_result.StaticResult.{StaticResult}
 use Rattle.kind_table.specs.declared.static_result.StaticResult.TheVariants.{Scalar}
 use Rattle.tree_core.specs.Label.{call}
-use Rattle.tree_core.specs.Tree.{Tree, tree, Trees, none, more, forest}
+use Rattle.tree_core.specs.Tree.{tree, more, forest}
 use Rattle.tree_core.specs.Formula.{tree_of}
 use Rattle.tree_core.specs.declared.node.Node.{Node}
 use Rattle.kind_table.specs.Table.{Table}

@@ -3,7 +3,7 @@
 --   root_run         the run over an imported formula
 --   import_of-open   where import goes on below the root
 --   import_of-shut   where it doesn't
-use Rattle.std.proofs.Common.{◌≡◌, ℕ, zero, suc, [], ◌∷◌, Bool, true, false, not, ◌&&◌, ◌||◌, if◌then◌else◌, Some, None, refl, sym, ap, ap₂, ◌∙◌}
+use Rattle.std.proofs.Common.{◌≡◌, ℕ, suc, [], ◌∷◌, Bool, true, false, ◌&&◌, if◌then◌else◌, Some, refl, ap, ap₂, ◌∙◌}
 use Rattle.tree_core.specs.Label.{Label}
 use Rattle.tree_core.specs.Tree.{Run, Tree, tree, Trees, none, more, children_of}
 use Rattle.tree_core.specs.Place.{Place, child, run_at, with_runs, all_with_runs}

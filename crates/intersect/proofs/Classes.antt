@@ -1,5 +1,5 @@
 -- The imported formula and its shape, for each class of nodes, from those of the parts.
-use Rattle.std.proofs.Common.{◌≡◌, ℕ, suc, List, [], ◌∷◌, map, Bool, true, false, not, ◌&&◌, ◌||◌, if◌then◌else◌, refl, sym, ap, ◌∙◌}
+use Rattle.std.proofs.Common.{◌≡◌, [], ◌∷◌, Bool, true, false, not, ◌&&◌, ◌||◌, if◌then◌else◌, refl, sym, ap, ◌∙◌}
 use Rattle.std.proofs.lemmas.Bool.{false≢true}
 use Rattle.call_core.specs.declared.function.Function.{Function}
 use Rattle.kind_table.specs.declared.static_result.StaticResult.{StaticResult}
@@ -16,7 +16,7 @@ use Rattle.intersect.specs.Imported.{merged}
 use Rattle.intersect.specs.ImportOf.{is_bare, opens, import_of}
 use Rattle.intersect.specs.After.{after, after_all, binds, is_large, is_whole_range_like, may_be_range_like, wants_one}
 use Rattle.intersect.specs.ImportRule.{import_rule}
-use Rattle.intersect.proofs.Below.{import_all, root_run, import_of-open, import_of-shut}
+use Rattle.intersect.proofs.Below.{import_all, import_of-open, import_of-shut}
 
 -- ---- nodes that are taken as a whole
 

@@ -1,11 +1,11 @@
 -- One drop after the other.
 --   kept_on, dropped_on   what is known after an `@` that is kept, after one that is dropped
 --   least                 after the last one
-use Rattle.std.proofs.Common.{◌≡◌, ℕ, zero, suc, ◌+◌, ◌-◌, ◌^◌, ◌<◌, ◌≤◌, List, [], ◌∷◌, length, slice_get, Bool, Some, inl, inr, ◌⊎◌, refl, sym, ap, ◌∙◌, arith, subst}
+use Rattle.std.proofs.Common.{◌≡◌, ℕ, zero, suc, ◌+◌, ◌^◌, ◌<◌, ◌≤◌, List, [], ◌∷◌, length, slice_get, Bool, Some, inl, inr, ◌⊎◌, refl, sym, ap, arith, subst}
 use Rattle.kind_table.specs.Table.{Table}
 use Rattle.tree_core.specs.Count.{ats_of, ats_of_all, size_of, size_of_all}
 use Rattle.tree_core.specs.Tree.{Tree, tree, Trees, none, more}
-use Rattle.intersect.specs.Dropped.{Dropped, OneDropped}
+use Rattle.intersect.specs.Dropped.{Dropped}
 use Rattle.intersect.specs.Stripped.{stripped}
 use Rattle.intersect.specs.Drops.{drops}
 use Rattle.intersect.specs.Export.{ComesBack, IsOnTheWay, NoneBack, IsKept, IsDropped}

@@ -3,23 +3,22 @@
 --   IsFixed      the dropped `@` stands at such a place
 --   one_drop     one or the other
 --   fixed_fails  what the whole was dropped from is not alike to the import of a formula with an `@` dropped at such a place
-use Rattle.std.proofs.Common.{◌≡◌, ℕ, zero, suc, ◌+◌, ◌≤◌, List, [], ◌∷◌, ◌++◌, length, map, slice_get, Bool, true, false, not, ◌&&◌, ◌||◌, if◌then◌else◌, Option, Some, None, inl, inr, ◌⊎◌, refl, sym, ap, ap₂, ◌∙◌, arith, subst}
+use Rattle.std.proofs.Common.{◌≡◌, ℕ, zero, suc, ◌+◌, ◌≤◌, List, [], ◌∷◌, length, map, slice_get, Bool, true, false, not, ◌&&◌, ◌||◌, if◌then◌else◌, Some, None, inl, inr, ◌⊎◌, refl, sym, ap, ◌∙◌, arith, subst}
 use Rattle.std.proofs.lemmas.Bool.{or_left, or_right, false≢true}
 use Rattle.std.specs.Option.{option_map_or}
 use Rattle.tree_core.specs.Count.{ats_of, ats_of_all}
 use Rattle.tree_core.specs.Flags.{Alike}
 use Rattle.tree_core.specs.Label.{Label, leaf, passing, spill, closed, call}
-use Rattle.tree_core.specs.Tree.{Run, Tree, tree, Trees, none, more, run_of, label_of, children_of}
+use Rattle.tree_core.specs.Tree.{Run, Tree, tree, Trees, none, more, label_of, children_of}
 use Rattle.tree_core.specs.Place.{Place, at, child, run_at}
 use Rattle.kind_table.specs.Table.{Table}
-use Rattle.intersect.specs.Rule.{Rule, range_like_at}
+use Rattle.intersect.specs.Rule.{range_like_at}
 use Rattle.intersect.specs.After.{may_be_range_like}
 use Rattle.intersect.specs.Imported.{merged}
 use Rattle.intersect.specs.Dropped.{IsSubsequence, Dropped, OneDropped}
 use Rattle.intersect.specs.Drops.{run_drops, drops, all_drops}
-use Rattle.intersect.specs.ImportOf.{is_bare, opens, reached, import_of}
+use Rattle.intersect.specs.ImportOf.{opens, reached, import_of}
 use Rattle.intersect.specs.ImportRule.{import_rule, is_closed}
-use Rattle.intersect.specs.Reached.{IsReached}
 use Rattle.intersect.proofs.Exists.{imports}
 use Rattle.intersect.proofs.Reach.{is_reached, reached_is}
 use Rattle.intersect.proofs.Trimmed.{Trimmed, AllTrimmed, sub-length, sub-same, run_in, trims_of, fewer, all_fewer, trimmed-same, all_trimmed-same}

@@ -4,26 +4,17 @@
 --   drops_count  there are no more of them than `@`s
 --   one_drop     a formula with one `@` dropped is of the list, or it is dropped inside
 --   inside_fails  and then its import is not alike to what the whole one's is alike to
-use Rattle.std.proofs.Common.{◌≡◌, ℕ, zero, suc, ◌+◌, ◌≤◌, List, [], ◌∷◌, ◌++◌, length, map, slice_get, Bool, true, false, not, ◌&&◌, ◌||◌, if◌then◌else◌, Option, Some, None, inl, inr, ◌⊎◌, refl, sym, ap, ap₂, ◌∙◌, arith, subst}
-use Rattle.std.proofs.lemmas.Bool.{or_left, or_right, false≢true}
+use Rattle.std.proofs.Common.{◌≡◌, ℕ, zero, suc, ◌+◌, ◌≤◌, List, [], ◌∷◌, ◌++◌, length, map, slice_get, Bool, true, false, if◌then◌else◌, Some, inl, inr, ◌⊎◌, refl, sym, ap, ◌∙◌, arith, subst}
 use Rattle.std.proofs.lemmas.List.{length-map, length-append}
-use Rattle.std.specs.Option.{option_map_or}
 use Rattle.tree_core.specs.Count.{ats_of, ats_of_all}
-use Rattle.tree_core.specs.Flags.{Alike}
 use Rattle.tree_core.specs.Label.{Label}
-use Rattle.tree_core.specs.Tree.{Run, Tree, tree, Trees, none, more, run_of}
-use Rattle.tree_core.specs.Place.{Place, at, child, run_at}
-use Rattle.kind_table.specs.Table.{Table}
-use Rattle.intersect.specs.Dropped.{IsSubsequence, Dropped, OneDropped}
+use Rattle.tree_core.specs.Tree.{Run, Tree, tree, Trees, none, more}
+use Rattle.intersect.specs.Dropped.{IsSubsequence, OneDropped}
 use Rattle.intersect.specs.After.{may_be_range_like}
 use Rattle.intersect.specs.Drops.{run_drops, drops, all_drops}
-use Rattle.intersect.specs.ImportOf.{opens, reached, import_of}
-use Rattle.intersect.specs.ImportRule.{import_rule, is_closed}
-use Rattle.intersect.specs.Reached.{IsReached}
-use Rattle.intersect.proofs.Exists.{imports}
-use Rattle.intersect.proofs.Reach.{reached_is}
-use Rattle.intersect.proofs.Trimmed.{Trimmed, AllTrimmed, sub-itself, sub-length, sub-same, run_in, trims_of, drops_of, trimmed-itself, all_trimmed-itself, fewer, all_fewer, all_trimmed-same}
-use Rattle.intersect.proofs.Withouts.{get-map, get-front, get-behind}
+use Rattle.intersect.specs.ImportRule.{is_closed}
+use Rattle.intersect.proofs.Trimmed.{Trimmed, AllTrimmed, sub-itself, sub-same, drops_of, trimmed-itself, all_trimmed-itself}
+use Rattle.intersect.proofs.Withouts.{get-map}
 
 -- ---- where an element of a list comes from
 

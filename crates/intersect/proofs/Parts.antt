@@ -1,5 +1,5 @@
 -- The given shapes of the parts of a formula, by its class.
-use Rattle.std.proofs.Common.{◌≡◌, Bool, List, [], ◌∷◌, map, refl, sym, ap, ap₂, ◌∙◌}
+use Rattle.std.proofs.Common.{◌≡◌, Bool, List, [], ◌∷◌, map, refl, ap, ap₂, ◌∙◌}
 use Rattle.call_core.specs.declared.function.Function.{Function}
 use Rattle.kind_table.specs.Table.{Table}
 use Rattle.tree_core.specs.Count.{calls_of}

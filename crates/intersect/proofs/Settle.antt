@@ -2,7 +2,7 @@
 --   after-shape   the shape of an imported formula is the one after import
 --   after-most    it is at most the given one
 --   again         so an import of an imported formula, in a context that is no wider, is that formula
-use Rattle.std.proofs.Common.{◌≡◌, ℕ, zero, suc, List, [], ◌∷◌, length, slice_get, Bool, true, false, not, ◌&&◌, ◌||◌, if◌then◌else◌, Some, None, refl, sym, ap, ap₂, ◌∙◌, subst}
+use Rattle.std.proofs.Common.{◌≡◌, ℕ, zero, suc, List, [], ◌∷◌, length, slice_get, Bool, true, false, not, ◌&&◌, ◌||◌, if◌then◌else◌, refl, sym, ap, ap₂, ◌∙◌, subst}
 use Rattle.std.proofs.lemmas.Bool.{and_parts, and_from, false≢true}
 use Rattle.std.proofs.lemmas.List.Elements.{length_all_zip}
 use Rattle.std.specs.List.{AllZip}
@@ -21,7 +21,7 @@ use Rattle.tree_core.specs.Flags.{Alike}
 use Rattle.tree_core.specs.Place.{run_at}
 use Rattle.tree_core.specs.Tree.{Run, Tree, tree, Trees, none, more, skeleton}
 use Rattle.shape_core.specs.Shape.{call_shape, node_shape, passed, shape, shapes, shown_all}
-use Rattle.intersect.specs.After.{after, after_all, binds, context, is_large, is_range_like, is_scalar, signature_of, wants_one}
+use Rattle.intersect.specs.After.{after, after_all, binds, context, is_large, is_scalar, signature_of, wants_one}
 use Rattle.intersect.specs.Imported.{merged}
 use Rattle.intersect.specs.ImportOf.{is_bare, opens, import_of}
 use Rattle.intersect.specs.ImportRule.{import_rule}

@@ -2,24 +2,21 @@
 -- or OFFSET, nor over a number.
 --   merged-bare  a run that isn't empty is not empty when it is merged
 --   rows-kept    the shape of a call over imported arguments, as over the given ones
-use Rattle.std.proofs.Common.{◌≡◌, ℕ, zero, suc, List, [], ◌∷◌, length, slice_get, Bool, true, false, ◌&&◌, cond, nat_lt, if◌then◌else◌, Option, Some, None, option_map, option_and_then, refl, sym, ap, ap₂, ◌∙◌}
-use Rattle.std.specs.Option.{option_map_or}
+use Rattle.std.proofs.Common.{◌≡◌, ℕ, zero, suc, List, [], ◌∷◌, length, slice_get, Bool, true, false, ◌&&◌, if◌then◌else◌, Option, Some, None, option_map, option_and_then, refl, ap, ◌∙◌}
 use Rattle.call_core.specs.declared.function.Function.{Function}
 use Rattle.call_core.specs.declared.function.Function.TheVariants.{Unique, Filter, Take, Drop, Expand, Hstack, Vstack, Choosecols, Chooserows, Tocol, Torow, Transpose, Trimrange, Wrapcols, Wraprows, Sequence, Index, Offset, Choose, Row, Rows, Column, Columns, Indirect, Address, Areas, Formulatext, Arraytotext, Textsplit, Sort, Sortby, Let, Lambda, Map, Reduce, Scan, Byrow, Bycol, Makearray, Other}
 use Rattle.kind_table.specs.declared.shown.Shown.{Shown}
 use Rattle.kind_table.specs.declared.shown.Shown.TheVariants.{Nothing}
-use Rattle.kind_table.specs.declared.signature.Signature.{Signature}
 use Rattle.kind_table.specs.declared.signature.Signature.TheVariants.{Vector, Error}
 use Rattle.kind_table.specs.declared.static_result.StaticResult.{StaticResult}
-use Rattle.kind_table.specs.OwnRow.{is_one, is_one_if_given, is_reference, line_row, offset_by, same_row, same_column}
-use Rattle.kind_table.specs.OwnSignature.{own_signature}
+use Rattle.kind_table.specs.OwnRow.{is_one, is_one_if_given, line_row, offset_by, same_row, same_column}
 use Rattle.kind_table.specs.Pattern.{signature_by}
 use Rattle.kind_table.specs.Table.{Table}
-use Rattle.tree_core.specs.Label.{Label, Leaf, boolean, number, string, error, empty, reference, range, wrong_reference, wrong_range, array, defined_name, table_name, named_variable, parse_error}
-use Rattle.tree_core.specs.Label.{leaf, passing, spill, closed, range_operator, named_call, lambda_definition, lambda_call, call}
+use Rattle.tree_core.specs.Label.{Label, boolean, number, string, error, empty, reference, range, wrong_reference, wrong_range, array, defined_name, table_name, named_variable, parse_error}
+use Rattle.tree_core.specs.Label.{leaf, passing, spill, closed, call}
 use Rattle.tree_core.specs.Tree.{Run, Tree, tree, Trees, none, more}
-use Rattle.shape_core.specs.Shape.{call_shape, shapes, shown, shown_all}
-use Rattle.intersect.specs.After.{is_range_like_leaf, is_range_operator, is_scalar, wants_one}
+use Rattle.shape_core.specs.Shape.{call_shape, shown, shown_all}
+use Rattle.intersect.specs.After.{is_range_operator, is_scalar, wants_one}
 use Rattle.intersect.specs.Imported.{merged}
 use Rattle.intersect.specs.ImportOf.{is_bare, import_of}
 use Rattle.intersect.specs.ImportRule.{import_rule}

@@ -1,7 +1,6 @@
 -- Import at most doubles the nodes of a formula.
-use Rattle.std.proofs.Common.{◌≡◌, ℕ, suc, ◌+◌, ◌*◌, ◌≤◌, [], ◌∷◌, length, Bool, true, false, ◌&&◌, if◌then◌else◌, refl, ap, ◌∙◌, arith, subst, sym}
+use Rattle.std.proofs.Common.{◌≡◌, ℕ, suc, ◌+◌, ◌*◌, ◌≤◌, [], ◌∷◌, length, Bool, true, false, ◌&&◌, if◌then◌else◌, refl, arith, subst, sym}
 use Rattle.tree_core.specs.Count.{size_of, size_of_all}
-use Rattle.tree_core.specs.Label.{Label}
 use Rattle.tree_core.specs.Tree.{Run, Tree, tree, Trees, none, more}
 use Rattle.intersect.specs.Rule.{Rule}
 use Rattle.intersect.specs.Imported.{merged}

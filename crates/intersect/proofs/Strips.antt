@@ -1,6 +1,6 @@
 -- A formula without the `@`s that import put, by its class; and it is the formula with `@`s dropped.
-use Rattle.std.proofs.Common.{◌≡◌, List, [], ◌∷◌, map, Bool, true, false, ◌&&◌, if◌then◌else◌, inl, inr, refl, ap, ap₂, ◌∙◌}
-use Rattle.tree_core.specs.Label.{Label, leaf, passing, spill, closed, call}
+use Rattle.std.proofs.Common.{◌≡◌, List, [], ◌∷◌, map, Bool, true, false, ◌&&◌, if◌then◌else◌, inl, refl, ap}
+use Rattle.tree_core.specs.Label.{leaf, passing, spill, closed, call}
 use Rattle.tree_core.specs.Tree.{Run, Tree, tree, Trees, none, more, forest, label_of, under}
 use Rattle.tree_core.specs.Formula.{tree_of}
 use Rattle.tree_core.specs.declared.node.Node.{Node}

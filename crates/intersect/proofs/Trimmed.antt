@@ -3,7 +3,7 @@
 --   trims, drops_of  that is to say, the formula is the other one with `@`s dropped
 --   trimmed-same   with as many `@`s it is the other one
 --   dropped-itself, dropped-more  nothing dropped; dropped, and dropped again
-use Rattle.std.proofs.Common.{◌≡◌, ℕ, zero, suc, ◌+◌, ◌≤◌, [], ◌∷◌, length, Some, None, inl, inr, ◌⊎◌, refl, sym, ap, ap₂, ◌∙◌, arith}
+use Rattle.std.proofs.Common.{◌≡◌, ℕ, zero, suc, ◌≤◌, [], ◌∷◌, length, None, inl, inr, refl, ap, ap₂, ◌∙◌, arith}
 use Rattle.std.specs.Prelude.{⊤}
 use Rattle.std.specs.Option.{option_map_or}
 use Rattle.tree_core.specs.Count.{ats_of, ats_of_all}

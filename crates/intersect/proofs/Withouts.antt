@@ -1,7 +1,7 @@
 -- The drops of a formula, by the drops of its parts.
 --   withouts  what is found in a part, as found in the whole
 --   sides     so of the two sides of an operator
-use Rattle.std.proofs.Common.{◌≡◌, ℕ, zero, suc, ◌+◌, ◌-◌, ◌<◌, List, [], ◌∷◌, ◌++◌, length, map, slice_get, slice_set, take, get_or, Some, None, Bool, true, false, if◌then◌else◌, ◌≢◌, refl, sym, ap, ap₂, ◌∙◌, arith, subst}
+use Rattle.std.proofs.Common.{◌≡◌, ℕ, zero, suc, ◌+◌, ◌-◌, ◌<◌, List, [], ◌∷◌, ◌++◌, length, map, slice_get, slice_set, take, get_or, Some, Bool, true, false, if◌then◌else◌, ◌≢◌, refl, sym, ap, ap₂, ◌∙◌, arith, subst}
 use Rattle.std.proofs.lemmas.List.{length-map, length-append, map-append, append-nil}
 use Rattle.tree_core.specs.Label.{Binary, Label, leaf, passing, binary, unary, spill, closed, call}
 use Rattle.tree_core.specs.Tree.{Run, Tree, tree, Trees, none, more, forest, label_of, under}

@@ -9,7 +9,7 @@
 --   is_range_like   a node that may stand for many values, by what its children show and by their shapes after import
 --   after, after_all  the shape of a formula after import, and of each of some formulas
 --   children_after  the shapes of a node's children after import, each in its context
-use Rattle.std.specs.Prelude.{ℕ, suc, Bool, true, false, ◌&&◌, ◌||◌, not, if◌then◌else◌, List, [], ◌∷◌, length}
+use Rattle.std.specs.Prelude.{ℕ, suc, Bool, true, false, ◌&&◌, not, if◌then◌else◌, List, [], ◌∷◌, length}
 use Rattle.std.specs.List.{slice_get}
 use Rattle.std.specs.Option.{option_map_or}
 use Rattle.call_core.specs.declared.function.Function.{Function}

@@ -10,7 +10,6 @@ use Rattle.tree_core.specs.Count.{ats_of}
 use Rattle.tree_core.specs.Flags.{Alike}
 use Rattle.tree_core.specs.Formula.{tree_of}
 use Rattle.tree_core.specs.Tree.{Tree}
-use Rattle.tree_core.specs.declared.node.Node.{Node}
 use Rattle.intersect.specs.declared.export.Tried.{Tried}
 use Rattle.intersect.specs.declared.export.Tried.TheVariants as tried
 use Rattle.intersect.specs.declared.export.Swept.{Swept}

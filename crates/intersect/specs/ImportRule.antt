@@ -3,7 +3,7 @@
 --   import_rule  these nodes are closed; a node is range-like by its children as imported; a child's context is by the given shapes
 use Rattle.std.specs.Prelude.{Bool, true, false}
 use Rattle.kind_table.specs.Table.{Table}
-use Rattle.tree_core.specs.Label.{Label, leaf, passing, spill, closed, call}
+use Rattle.tree_core.specs.Label.{Label, closed}
 use Rattle.shape_core.specs.Shape.{shown_all}
 use Rattle.intersect.specs.After.{context, children_after, is_range_like}
 use Rattle.intersect.specs.Rule.{Rule}

@@ -2,18 +2,18 @@
 use Rattle.std.proofs.Common.{◌≡◌, ℕ, zero, suc, ◌+◌, ◌<◌, arith, Bool, List, [], ◌∷◌, ◌++◌, drop, get_or, length, map, take, refl, sym, ap, ap₂, ◌∙◌}
 use Rattle.call_core.specs.declared.function.Function.{Function}
 use Rattle.tree_core.specs.Count.{calls_of, calls_of_all}
-use Rattle.tree_core.specs.Formula.{tree_of, one, two, between}
-use Rattle.tree_core.specs.Label.{Binary, leaf, passing, binary, unary, spill, closed, call}
+use Rattle.tree_core.specs.Formula.{tree_of, one, between}
+use Rattle.tree_core.specs.Label.{Binary, leaf, passing, unary, spill, closed, call}
 use Rattle.tree_core.specs.declared.operator.OpUnary.{OpUnary}
-use Rattle.tree_core.specs.Tree.{Run, Tree, tree, Trees, none, more, forest, under}
+use Rattle.tree_core.specs.Tree.{Tree, tree, forest, under}
 use Rattle.tree_core.specs.declared.node.Node.{Node}
 use Rattle.kind_table.specs.declared.static_result.StaticResult.{StaticResult}
 use Rattle.kind_table.specs.declared.static_result.StaticResult.TheVariants.{Scalar, Unknown}
 use Rattle.kind_table.specs.Shape.{combined}
 use Rattle.kind_table.specs.Table.{Table}
 use Rattle.tree_class.specs.Class.{IsWhole}
-use Rattle.shape_core.specs.Shape.{call_shape, shape, shapes, shown_all, whole_shape}
-use Rattle.shape_core.specs.Given.{given, given_all, over_run, parts_here, parts_of, shape_here, shape_of}
+use Rattle.shape_core.specs.Shape.{call_shape, shape, shown_all, whole_shape}
+use Rattle.shape_core.specs.Given.{given, given_all, parts_here, parts_of, shape_here, shape_of}
 use Rattle.shape_core.specs.declared.given.Given.{Given}
 use Rattle.shape_core.specs.declared.given.Given.TheVariants.{Of, outs-Of}
 use Rattle.shape_core.proofs.Shapes.{shapes-forest}

@@ -2,7 +2,7 @@
 --   shape_of, parts_of  the shape of the whole, and those of the parts
 --   over_run            those of a formula under its `@`s
 --   given, given_all    those of a formula, and of each of some formulas. The parts of a node that is taken as a whole aren't asked
-use Rattle.std.specs.Prelude.{Bool, List, [], ◌∷◌}
+use Rattle.std.specs.Prelude.{List, [], ◌∷◌}
 use Rattle.kind_table.specs.declared.static_result.StaticResult.{StaticResult}
 use Rattle.kind_table.specs.declared.static_result.StaticResult.TheVariants.{Scalar}
 use Rattle.kind_table.specs.Table.{Table}

@@ -1,5 +1,3 @@
-use Rattle.std.proofs.Common.{◌∙◌, ap}
-use Rattle.tree_core.specs.Formula.{tree_of}
 use Rattle.intersect.proofs.Exports.{first_bare, way_begins}
 use Rattle.intersect.proofs.export.first_try.Goals as goal
 

@@ -1,8 +1,7 @@
-use Rattle.std.proofs.Common.{◌<◌, ◌≤◌, sym, subst, arith}
+use Rattle.std.proofs.Common.{◌<◌, arith}
 use Rattle.tree_core.specs.Count.{ats_of}
 use Rattle.tree_core.specs.Formula.{tree_of}
-use Rattle.intersect.specs.Export.{IsOnTheWay}
-use Rattle.intersect.proofs.Exports.{kept_within, dropped_within, one_fewer, way_on}
+use Rattle.intersect.proofs.Exports.{kept_within, one_fewer, way_on}
 use Rattle.intersect.proofs.export.sweep.Goals as goal
 
 pub overflow_add-number : goal.overflow_add-number

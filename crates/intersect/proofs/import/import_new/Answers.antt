@@ -1,10 +1,3 @@
-use Rattle.std.proofs.Common.{◌≡◌, ◌∙◌, sym, ap, refl, length, subst}
-use Rattle.tree_core.specs.Count.{size_of}
-use Rattle.tree_core.specs.Flags.{Alike}
-use Rattle.tree_core.specs.Formula.{tree_of}
-use Rattle.tree_core.specs.Tree.{Tree, skeleton}
-use Rattle.intersect.specs.Export.{ComesBack}
-use Rattle.intersect.specs.ImportOf.{import_of}
 use Rattle.intersect.specs.ImportRule.{import_rule}
 use Rattle.intersect.proofs.Exists.{imports_since}
 use Rattle.intersect.proofs.Settle.{settled}

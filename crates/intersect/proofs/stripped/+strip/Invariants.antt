@@ -1,5 +1,5 @@
 -- What import put is taken from the parts of a node, and from a call's deepest argument after the call.
-use Rattle.std.proofs.Common.{◌≡◌, map, ℕ, ◌+◌, ◌*◌, take}
+use Rattle.std.proofs.Common.{◌≡◌, map, ◌+◌, ◌*◌, take}
 use denote.Param.Weighed.{most}
 use Rattle.tree_core.specs.Formula.{tree_of}
 use Rattle.tree_core.specs.declared.node.Node.{size-Node}

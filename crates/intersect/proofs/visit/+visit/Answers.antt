@@ -1,8 +1,6 @@
-use Rattle.std.proofs.Common.{rules, ◌≡◌, ◌+◌, ◌≤◌, ◌∙◌, sym, ap, map, drop, arith}
+use Rattle.std.proofs.Common.{◌∙◌, ap, map, arith}
 use Rattle.std.proofs.lemmas.List.{map-append}
-use Rattle.tree_core.specs.Count.{calls_of, calls_of_all}
 use Rattle.tree_core.specs.Formula.{tree_of}
-use Rattle.tree_core.specs.Tree.{forest}
 use Rattle.shape_core.proofs.Givens.{calls-more}
 use Rattle.intersect.specs.After.{after}
 use Rattle.intersect.specs.ImportOf.{import_of}

@@ -1,5 +1,5 @@
 -- Import goes on to the parts of a node, and from a call to the deepest of its arguments.
-use Rattle.std.proofs.Common.{◌≡◌, map, ℕ, ◌+◌, ◌*◌, ◌≤◌, drop, take}
+use Rattle.std.proofs.Common.{◌≡◌, map, ◌+◌, ◌*◌, ◌≤◌, drop, take}
 use denote.Param.Weighed.{most}
 use Rattle.tree_core.specs.Count.{calls_of_all}
 use Rattle.tree_core.specs.Formula.{tree_of}

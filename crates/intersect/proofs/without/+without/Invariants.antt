@@ -1,5 +1,5 @@
 -- The search for an `@` goes on to the parts of a node, and from a call to the deepest of its arguments.
-use Rattle.std.proofs.Common.{◌≡◌, map, ℕ, ◌+◌, ◌*◌, length, max, take}
+use Rattle.std.proofs.Common.{◌≡◌, map, ◌+◌, ◌*◌, length, max, take}
 use denote.Param.Weighed.{most}
 use Rattle.tree_core.specs.Formula.{tree_of}
 use Rattle.tree_core.specs.Tree.{forest}

@@ -1,7 +1,4 @@
-use Rattle.std.proofs.Common.{◌≡◌, ◌+◌, ◌≤◌, ◌∙◌, sym, ap, map, drop, arith}
-use Rattle.tree_core.specs.Count.{calls_of, calls_of_all}
-use Rattle.tree_core.specs.Formula.{tree_of}
-use Rattle.tree_core.specs.Tree.{forest}
+use Rattle.std.proofs.Common.{◌∙◌, ap, arith}
 use Rattle.shape_core.specs.Given.{shape_of}
 use Rattle.shape_core.proofs.Givens.{calls-more, map-more, shape_of-given}
 use Rattle.shape_core.proofs.parts.+analysed.Goals as goal

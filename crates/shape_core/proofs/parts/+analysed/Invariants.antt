@@ -1,5 +1,5 @@
 -- The analysis of arguments goes on to the deepest of them, after the call that has them.
-use Rattle.std.proofs.Common.{◌≡◌, map, ℕ, ◌+◌, ◌*◌, ◌≤◌, drop, take}
+use Rattle.std.proofs.Common.{◌≡◌, map, ◌+◌, ◌*◌, ◌≤◌, drop, take}
 use denote.Param.Weighed.{most}
 use Rattle.tree_core.specs.Count.{calls_of_all}
 use Rattle.tree_core.specs.Formula.{tree_of}
