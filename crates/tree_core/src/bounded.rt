@@ -22,50 +22,29 @@ fn left_of(node: &Node, most: usize) -> Option<usize>
     if most == 0 {
         return None;
     }
-    let left = most - 1;
+    let rest = most - 1;
     match node {
-        Node::OpRangeKind {
-            left: first,
-            right: second,
-        }
-        | Node::OpConcatenateKind {
-            left: first,
-            right: second,
-        }
-        | Node::OpSumKind {
-            left: first,
-            right: second,
-            ..
-        }
-        | Node::OpProductKind {
-            left: first,
-            right: second,
-            ..
-        }
-        | Node::OpPowerKind {
-            left: first,
-            right: second,
-        }
-        | Node::CompareKind {
-            left: first,
-            right: second,
-            ..
-        } => match left_of(first.get(), left) {
-            Some(left) => left_of(second.get(), left),
+        Node::OpRangeKind { left, right }
+        | Node::OpConcatenateKind { left, right }
+        | Node::OpSumKind { left, right, .. }
+        | Node::OpProductKind { left, right, .. }
+        | Node::OpPowerKind { left, right }
+        | Node::CompareKind { left, right, .. } => match left_of(left.get(), rest) {
+            Some(rest) => left_of(right.get(), rest),
             None => None,
         },
         Node::UnaryKind { right: child, .. }
         | Node::ImplicitIntersection { child, .. }
         | Node::SpillRangeOperator { child }
-        | Node::LambdaDefKind { body: child, .. } => left_of(child.get(), left),
+        | Node::LambdaDefKind { body: child, .. } => left_of(child.get(), rest),
         Node::FunctionKind { args, .. } | Node::NamedFunctionKind { args, .. } => {
-            left_of_all(args.as_slice(), left)
+            left_of_all(args.as_slice(), rest)
         }
-        Node::LambdaCallKind { lambda, args } => match left_of(lambda.get(), left) {
-            Some(left) => left_of_all(args.as_slice(), left),
+        Node::LambdaCallKind { lambda, args } => match left_of(lambda.get(), rest) {
+            Some(rest) => left_of_all(args.as_slice(), rest),
             None => None,
         },
-        _ => Some(left),
+        _ => Some(rest),
     }
 }
 
