@@ -12,46 +12,50 @@ static OPERATORS: [Operator; 5] = [
 ];
 
 #[test]
-fn each_class_has_its_parts(rt: HostRuntime) -> Result<(), Fail> {
+fn operators_stand_between_their_sides(rt: HostRuntime) -> Result<(), Fail> {
     let alloc = rt.alloc();
     for &operator in &OPERATORS {
         let node = operator.over(alloc, Node::NumberKind(1), Node::NumberKind(2))?;
-        assert!(rt;
-            matches!(
-            Class::of(&node),
-            Class::Binary { operator: found, left: Node::NumberKind(1), right: Node::NumberKind(2) } if found == operator
-        ),
-            "{operator:?}"
-        );
+        let found = match Class::of(&node) {
+            Class::Binary {
+                operator,
+                left: Node::NumberKind(1),
+                right: Node::NumberKind(2),
+            } => Some(operator),
+            _ => None,
+        };
+        assert_eq!(rt; found, Some(operator));
     }
-    let child = Boxed::new(alloc, Node::NumberKind(1))?;
+    Ok(())
+}
+
+#[test]
+fn an_operator_makes_its_node(rt: HostRuntime) -> Result<(), Fail> {
+    let alloc = rt.alloc();
+    let quotient = Node::OpProductKind {
+        kind: OpProduct::Divide,
+        left: Boxed::new(alloc, Node::NumberKind(1))?,
+        right: Boxed::new(alloc, Node::EmptyArgKind)?,
+    };
+    let divide = Operator::Product(OpProduct::Divide);
+    let over = divide.over(alloc, Node::NumberKind(1), Node::EmptyArgKind)?;
+    assert_eq!(rt; over, quotient);
+    Ok(())
+}
+
+#[test]
+fn nodes_over_one_operand_have_it(rt: HostRuntime) -> Result<(), Fail> {
+    let alloc = rt.alloc();
     let intersection = Node::ImplicitIntersection {
         automatic: false,
-        child,
+        child: Boxed::new(alloc, Node::NumberKind(1))?,
     };
-    assert!(rt;
-        matches!(
-            Class::of(&intersection),
-            Class::Intersection {
-                automatic: false,
-                child: Node::NumberKind(1)
-            }
-        )
-    );
-    let right = Boxed::new(alloc, intersection)?;
+    assert!(rt; is_intersection_over_one(&intersection));
     let unary = Node::UnaryKind {
         kind: OpUnary::Percentage,
-        right,
+        right: Boxed::new(alloc, intersection)?,
     };
-    assert!(rt;
-        matches!(
-            Class::of(&unary),
-            Class::Unary {
-                kind: OpUnary::Percentage,
-                right: Node::ImplicitIntersection { .. }
-            }
-        )
-    );
+    assert!(rt; is_percentage_of_intersection(&unary));
     let spill = Node::SpillRangeOperator {
         child: Boxed::new(alloc, unary)?,
     };
@@ -63,6 +67,32 @@ fn each_class_has_its_parts(rt: HostRuntime) -> Result<(), Fail> {
             }
         )
     );
+    Ok(())
+}
+
+fn is_intersection_over_one(node: &Node) -> bool {
+    matches!(
+        Class::of(node),
+        Class::Intersection {
+            automatic: false,
+            child: Node::NumberKind(1)
+        }
+    )
+}
+
+fn is_percentage_of_intersection(node: &Node) -> bool {
+    matches!(
+        Class::of(node),
+        Class::Unary {
+            kind: OpUnary::Percentage,
+            right: Node::ImplicitIntersection { .. }
+        }
+    )
+}
+
+#[test]
+fn calls_have_arguments_and_range_operators_are_whole(rt: HostRuntime) -> Result<(), Fail> {
+    let alloc = rt.alloc();
     let call = Node::FunctionKind {
         kind: Function::Let,
         args: Nodes::new(alloc),
@@ -71,20 +101,9 @@ fn each_class_has_its_parts(rt: HostRuntime) -> Result<(), Fail> {
         matches!(Class::of(&call), Class::Call { kind: Function::Let, args } if args.len() == 0)
     );
     let range_operator = Node::OpRangeKind {
-        left: Boxed::new(alloc, spill)?,
-        right: Boxed::new(alloc, call)?,
+        left: Boxed::new(alloc, call)?,
+        right: Boxed::new(alloc, Node::NumberKind(1))?,
     };
     assert!(rt; matches!(Class::of(&range_operator), Class::Whole));
-    let quotient = Node::OpProductKind {
-        kind: OpProduct::Divide,
-        left: Boxed::new(alloc, Node::NumberKind(1))?,
-        right: Boxed::new(alloc, Node::EmptyArgKind)?,
-    };
-    let over = Operator::Product(OpProduct::Divide).over(
-        alloc,
-        Node::NumberKind(1),
-        Node::EmptyArgKind,
-    )?;
-    assert_eq!(rt; over, quotient);
     Ok(())
 }

@@ -105,6 +105,8 @@ fn nodes_calls_and_intersections_are_counted(rt: HostRuntime) -> Result<(), Fail
     assert_eq!(rt; given.node_count(), 5);
     assert_eq!(rt; given.call_count(), 1);
     assert_eq!(rt; given.at_count(), 3);
+    assert!(rt; given.has_at_most(5));
+    assert!(rt; !given.has_at_most(4));
     Ok(())
 }
 
