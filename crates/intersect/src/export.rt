@@ -64,14 +64,17 @@ fn first_try<K: Asks<L>, L>(
     kinds: &K,
     steps: &mut Steps<L>,
 ) -> Result<Node, Memory>
-    requires { ComesBack (K.table kinds.now) add (tree_of import.now) (tree_of import.now) }
+    requires own_import { ComesBack (K.table kinds.now) add (tree_of import.now) (tree_of import.now) }
+    requires countable { size_of (tree_of import.now) < 2 ^ 64 }
     ensures { IfOk result (λ export. IsOnTheWay (K.table kinds.now) add (tree_of import.now) (tree_of export)) }
 {
-    let bare = without_automatic(alloc, import)?;
-    if comes_back(alloc, import, &bare, add, kinds, steps)? {
-        return Ok(bare);
+    if import.at_count() > 0 {
+        let bare = without_automatic(alloc, import)?;
+        if comes_back(alloc, import, &bare, add, kinds, steps)? {
+            return Ok(bare);
+        }
+        drop(bare);
     }
-    drop(bare);
     let copy = import.try_clone(alloc)?;
     Ok(copy)
 }
