@@ -1,6 +1,8 @@
 ghost use Rattle.std.specs.Prelude.{◌≡◌};
 ghost use Rattle.tree_core.specs.ErrorName.{error_name};
 
+use std::fmt;
+
 /// The error values.
 #[derive(Clone, Copy, Debug, PartialEq, Eq)]
 pub enum Error {
@@ -37,5 +39,16 @@ impl Error {
             Error::CIRC => "#CIRC!",
             Error::NULL => "#NULL!",
         }
+    }
+}
+
+impl fmt::Display for Error {
+    ghost use Rattle.std.specs.Prelude.{Some};
+    ghost use Rattle.tree_core.specs.ErrorName.{error_name};
+
+    ghost output = { λ error. Some (error_name error) };
+
+    fn fmt<W: fmt::Write>(&self, f: &mut fmt::Formatter<W>) -> fmt::Result {
+        f.write_str(self.name())
     }
 }
