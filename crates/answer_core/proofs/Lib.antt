@@ -1,1 +1,3 @@
 mod Words
+pub mod Questions
+pub mod Runs

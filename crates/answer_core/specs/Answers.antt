@@ -1,14 +1,41 @@
 -- What an answer says of a formula.
---   Answers  by a table of kinds: where one value is wanted of the whole, one formula is the imported one, and the other an export of it
-use Rattle.std.specs.Prelude.{true}
+--   Answers         in a setting and by a rule of import, where one value is wanted of the whole: one formula is the imported one,
+--                   and the other an export of it; the shapes and the values are those of the given and of the imported formula
+--   Judges          an answer, or want of memory, where no place of the formula is bad; else the first bad one
+--   most_questions  how often the table of kinds is asked at most
+use Rattle.std.specs.Prelude.{◌≡◌, ℕ, ◌+◌, ◌*◌, true, Option, None, Some, Result, Ok, Err}
 use Rattle.kind_table.specs.Table.{Table}
-use Rattle.tree_core.specs.declared.node.Node.{Node}
+use Rattle.tree_core.specs.Count.{ats_of, calls_of}
 use Rattle.tree_core.specs.Formula.{tree_of}
+use Rattle.tree_core.specs.Tree.{Tree}
+use Rattle.shape_core.specs.Shape.{shape}
+use Rattle.intersect.specs.declared.rule.ImportRule.{ImportRule}
 use Rattle.intersect.specs.ImportRule.{import_rule}
+use Rattle.intersect.specs.ImportOf.{import_of}
 use Rattle.intersect.specs.Imported.{Imported}
 use Rattle.intersect.specs.Exported.{Exported}
-use Rattle.answer_core.specs.declared.answer.Answer.{Answer}
+use Rattle.eval_core.specs.Meaning.{mean}
+use Rattle.eval_core.specs.Own.{Setting}
+use Rattle.eval_core.specs.declared.fault.Fault.{Fault}
+use Rattle.eval_core.specs.declared.fault.Fault.TheVariants.{BadRequest, Memory}
+use Rattle.validity_core.specs.declared.place.Place.{Place}
+use Rattle.print_core.specs.declared.answer.Answer.{Answer}
 
-pub record Answers (table : Table) (formula : Node) (answer : Answer) : Type 0 where
-  pub import : Imported (import_rule table) true (tree_of formula) (tree_of answer.imported)
-  pub export : Exported (import_rule table) true (tree_of answer.imported) (tree_of answer.exported)
+pub record Answers (rule : ImportRule) (here : Setting) (formula : Tree) (answer : Answer) : Type 0 where
+  pub import : Imported (import_rule rule here.table) true formula (tree_of answer.imported)
+  pub export : Exported (import_rule rule here.table) true (tree_of answer.imported) (tree_of answer.exported)
+  pub given_shape : answer.given_shape ≡ shape here.table formula
+  pub imported_shape : answer.imported_shape ≡ shape here.table (tree_of answer.imported)
+  pub spilled : answer.spilled ≡ mean here formula
+  pub legacy : answer.legacy ≡ mean here (tree_of answer.imported)
+
+abbrev pub Judges : Result Answer Fault → Option Place → Type 0
+Judges (Ok answer) bad = bad ≡ None
+Judges (Err (BadRequest place)) bad = bad ≡ Some place
+Judges (Err Memory) bad = bad ≡ None
+
+abbrev pub questions : (calls ats : ℕ) → ℕ
+questions calls ats = 2 * calls * ((ats + 1) * (ats + 1) + 2)
+
+abbrev pub most_questions : ImportRule → Table → Tree → ℕ
+most_questions rule table formula = questions (calls_of formula) (ats_of (import_of (import_rule rule table) true formula))

@@ -1,4 +1,5 @@
 pub mod Answers
+pub mod Parts
 pub mod Command
 pub mod Refusal
 pub mod Run

@@ -1,81 +1,151 @@
--- What a run does. `old` and `new` are the bytes that the source has left, before and after, where it tells them.
---   ReadsWhole    the source was read to its end and gave these bytes, at most 16777216 of them
+-- What a run does.
+--   Trace, trace  what a device tells before and after, where it tells it (the bytes that a source has left, or that a sink was
+--                 given), and its counts of faults before and after
+--   ReadsWhole    a source was read to its end and gave these bytes, at most 16777216 of them
 --   IsAnswered    it gave a request, and the text is the line of an answer to it
+--   setting_of, bad_of   what a request is answered in; the first bad place of its formula
+--   asked_of      what a request asks
+--   RefusedBy     what stands against a formula: its first bad place, or want of memory
 --   IsNoRequest   it gave bytes that are no request
---   HasReason     what a refusal stands on: the words, the bytes or the count of faults
---   Intended      the text that a run sets out to write: the line of an answer, or of a refusal that has its reason
---   Sends         the text was written, and the status stays; or the sink refused a call, and a front of it was
---   RefusedBy     what a status says of the line that was written
---   IsCommanded   the word is `answer`, and the source has just the bytes of a request
+--   IsBadRequest  it gave a request whose formula is bad at a place
+--   IsOutput      what a command sends
+--   HasRequest    a source has just the bytes of a valid request
+--   IsFed         a source has just what a command asks of it
+--   HasReason     what a refusal stands on: the command, the bytes or the count of faults
+--   Intended      the text that a run sets out to write: what the command sends, or the line of a refusal that has its reason
+--   IsSent        the text was written, and the status stays; or the sink refused a call, and a front of it was
+--   Refused       a refusal has its reason, and its line was written
+--   Ended         by the status: its cause, and what was written
 --   IsFaultless   a count of faults stayed, and below its last value
-use Rattle.std.specs.Prelude.{◌≡◌, ℕ, ◌+◌, ◌-◌, ◌^◌, ◌<◌, ◌≤◌, List, length, Option, None, Some, IsSome, ◌⊎◌, ⊤, String}
-use Rattle.std.specs.declared.alloc.Global.{Global}
+use Rattle.std.specs.Prelude.{◌≡◌, ℕ, ◌+◌, ◌-◌, ◌^◌, ◌<◌, ◌≤◌, List, length, Option, None, Some, IsSome, ◌⊎◌}
 use Rattle.device_core.specs.Faults.{Rose}
 use Rattle.device_core.specs.Flow.{Consumes, ConsumesAtMost, ConsumesCount, IsAtEnd, Adds, AddsFront}
 use Rattle.device_core.specs.declared.read.TheConstants.{LIMIT}
 use Rattle.kind_table.specs.CrateTable.{crate_table}
+use Rattle.intersect.specs.declared.rule.ImportRule.TheVariants.{AsCrate}
+use Rattle.book_core.specs.Held.{contents_of}
+use Rattle.validity_core.specs.Place.{bad_place}
+use Rattle.validity_core.specs.declared.place.Place.{Place}
+use Rattle.eval_core.specs.Own.{Setting, setting}
+use Rattle.answer_core.specs.declared.reading.TheConstants.{CELL_LIMIT}
+use Rattle.tree_core.specs.Formula.{tree_of}
+use Rattle.request_core.specs.Request.{Asked, request_of}
 use Rattle.request_core.specs.declared.request.Request.{Request}
-use Rattle.request_core.specs.Request.{request_of}
 use Rattle.print_core.specs.Answer.{answer_line}
-use Rattle.answer_core.specs.declared.answer.Answer.{Answer}
+use Rattle.print_core.specs.declared.answer.Answer.{Answer as TheAnswer}
+use Rattle.answer_core.specs.declared.command.Command.{Command}
+use Rattle.answer_core.specs.declared.command.Command.TheVariants.{Answer}
 use Rattle.answer_core.specs.declared.refusal.Refusal.{Refusal}
+use Rattle.answer_core.specs.declared.refusal.Refusal.TheVariants.{Usage, ReadFault, TooLong, BadJson, BadRequest, Memory}
 use Rattle.answer_core.specs.declared.status.Status.{Status}
 use Rattle.answer_core.specs.declared.status.Status.TheVariants as status
-use Rattle.answer_core.specs.declared.refusal.Refusal.TheVariants.{Usage, ReadFault, TooLong, BadJson, Memory}
 use Rattle.answer_core.specs.Answers.{Answers}
-use Rattle.answer_core.specs.Command.{IsAnswer}
 use Rattle.answer_core.specs.Refusal.{line_of}
 
-pub record ReadsWhole (old new : Option (List ℕ)) (bytes : List ℕ) : Type 0 where
-  pub consumed : Consumes old new bytes
-  pub at_end : IsAtEnd new
+pub record Trace : Type 0 where
+  pub old : Option (List ℕ)
+  pub new : Option (List ℕ)
+  pub faults_before : ℕ
+  pub faults_now : ℕ
+
+abbrev pub trace : (old new : Option (List ℕ)) → (faults_before faults_now : ℕ) → Trace
+trace old new faults_before faults_now = record { old = old; new = new; faults_before = faults_before; faults_now = faults_now }
+
+pub record ReadsWhole (source : Trace) (bytes : List ℕ) : Type 0 where
+  pub consumed : Consumes source.old source.new bytes
+  pub at_end : IsAtEnd source.new
   pub within : length bytes ≤ LIMIT
 
-pub record IsAnswered (old new : Option (List ℕ)) (text : List ℕ) : Type 0 where
-  pub bytes : List ℕ
-  pub whole : ReadsWhole old new bytes
-  pub request : Request
-  pub is_request : request_of bytes ≡ Some request
-  pub answer : Answer
-  pub answers : Answers crate_table request.formula answer
-  pub text_is : text ≡ answer_line answer.exported answer.imported
+-- what a request is answered in: the table of the crate, at most 1000000 cells of an array
+abbrev pub setting_of : Asked → Setting
+setting_of request = setting crate_table request.book CELL_LIMIT request.cell
 
-pub record IsNoRequest (old new : Option (List ℕ)) : Type 0 where
-  pub bytes : List ℕ
-  pub whole : ReadsWhole old new bytes
-  pub is_none : request_of bytes ≡ None
+-- the first bad place of a request's formula
+abbrev pub bad_of : Asked → Option Place
+bad_of request = bad_place crate_table (length request.book.sheets) request.cell request.formula
+
+abbrev pub asked_of : Request → Asked
+asked_of request = record { book = contents_of request.book; cell = request.cell; formula = tree_of request.formula }
 
 -- one line for each refusal
-abbrev pub HasReason : List (String Global) → (old new : Option (List ℕ)) → (faults_before faults_now : ℕ) → Refusal → Type 0
-HasReason words old new before now Usage = ¬ IsAnswer words
-HasReason words old new before now ReadFault = Rose before now × ConsumesAtMost old new LIMIT
-HasReason words old new before now TooLong = ConsumesCount old new (LIMIT + 1)
-HasReason words old new before now BadJson = IsNoRequest old new
-HasReason words old new before now Memory = IsAnswer words
+abbrev pub RefusedBy : Option Place → Refusal → Type 0
+RefusedBy bad Usage = ⊥
+RefusedBy bad ReadFault = ⊥
+RefusedBy bad TooLong = ⊥
+RefusedBy bad BadJson = ⊥
+RefusedBy bad (BadRequest place) = bad ≡ Some place
+RefusedBy bad Memory = bad ≡ None
 
-abbrev pub Intended : List (String Global) → (old new : Option (List ℕ)) → (faults_before faults_now : ℕ) → List ℕ → Type 0
-Intended words old new before now text =
-    IsAnswered old new text ⊎ ((refusal : Refusal) × HasReason words old new before now refusal × (text ≡ line_of refusal))
+pub record IsAnswered (source : Trace) (text : List ℕ) : Type 0 where
+  pub bytes : List ℕ
+  pub whole : ReadsWhole source bytes
+  pub request : Asked
+  pub is_request : request_of bytes ≡ Some request
+  pub answer : TheAnswer
+  pub answers : Answers AsCrate (setting_of request) request.formula answer
+  pub text_is : text ≡ answer_line answer
 
-abbrev pub Sends : (old new : Option (List ℕ)) → (before now : ℕ) → List ℕ → Status → Status → Type 0
-Sends old new before now text wanted result =
-    ((result ≡ wanted) × Adds old new text × (now ≡ before))
-    ⊎ ((result ≡ status.WriteFault) × AddsFront old new text × Rose before now)
+pub record IsNoRequest (source : Trace) : Type 0 where
+  pub bytes : List ℕ
+  pub whole : ReadsWhole source bytes
+  pub is_none : request_of bytes ≡ None
 
-abbrev pub RefusedBy : Status → (List ℕ → Type 0) → Type 0
-RefusedBy status.Done adds = ⊤
-RefusedBy status.Usage adds = adds (line_of Usage)
-RefusedBy status.BadJson adds = adds (line_of BadJson)
-RefusedBy status.TooLong adds = adds (line_of TooLong)
-RefusedBy status.ReadFault adds = adds (line_of ReadFault)
-RefusedBy status.WriteFault adds = ⊤
-RefusedBy status.Memory adds = adds (line_of Memory)
+pub record IsBadRequest (source : Trace) (place : Place) : Type 0 where
+  pub bytes : List ℕ
+  pub whole : ReadsWhole source bytes
+  pub request : Asked
+  pub is_request : request_of bytes ≡ Some request
+  pub is_bad : bad_of request ≡ Some place
 
-pub record IsCommanded (words : List (String Global)) (left : Option (List ℕ)) (bytes : List ℕ) : Type 0 where
-  pub word : IsAnswer words
+-- one line for each command
+abbrev pub IsOutput : Option Command → (source : Trace) → List ℕ → Type 0
+IsOutput None source text = ⊥
+IsOutput (Some Answer) source text = IsAnswered source text
+
+pub record HasRequest (left : Option (List ℕ)) : Type 0 where
+  pub bytes : List ℕ
   pub told : left ≡ Some bytes
   pub within : length bytes ≤ LIMIT
-  pub is_request : IsSome (request_of bytes)
+  pub request : Asked
+  pub is_request : request_of bytes ≡ Some request
+  pub is_valid : bad_of request ≡ None
+
+-- one line for each command
+abbrev pub IsFed : Option Command → (left : Option (List ℕ)) → Type 0
+IsFed None left = ⊥
+IsFed (Some Answer) left = HasRequest left
+
+-- one line for each refusal
+abbrev pub HasReason : Option Command → (source : Trace) → Refusal → Type 0
+HasReason command source Usage = command ≡ None
+HasReason command source ReadFault = Rose source.faults_before source.faults_now × ConsumesAtMost source.old source.new LIMIT
+HasReason command source TooLong = ConsumesCount source.old source.new (LIMIT + 1)
+HasReason command source BadJson = IsNoRequest source
+HasReason command source (BadRequest place) = IsBadRequest source place
+HasReason command source Memory = IsSome command
+
+abbrev pub Intended : Option Command → (source : Trace) → List ℕ → Type 0
+Intended command source text = IsOutput command source text ⊎ ((refusal : Refusal) × HasReason command source refusal × (text ≡ line_of refusal))
+
+abbrev pub IsSent : (sink : Trace) → List ℕ → Status → Status → Type 0
+IsSent sink text wanted result =
+    ((result ≡ wanted) × Adds sink.old sink.new text × (sink.faults_now ≡ sink.faults_before))
+    ⊎ ((result ≡ status.WriteFault) × AddsFront sink.old sink.new text × Rose sink.faults_before sink.faults_now)
+
+abbrev pub Refused : Option Command → (source sink : Trace) → Refusal → Type 0
+Refused command source sink refusal = HasReason command source refusal × Adds sink.old sink.new (line_of refusal)
+
+-- one line for each status
+abbrev pub Ended : Option Command → (source sink : Trace) → Status → Type 0
+Ended command source sink status.Done = (text : List ℕ) × IsOutput command source text × Adds sink.old sink.new text
+Ended command source sink status.Usage = Refused command source sink Usage
+Ended command source sink status.ReadFault = Refused command source sink ReadFault
+Ended command source sink status.TooLong = Refused command source sink TooLong
+Ended command source sink status.BadJson = Refused command source sink BadJson
+Ended command source sink (status.BadRequest place) = Refused command source sink (BadRequest place)
+Ended command source sink status.Memory = Refused command source sink Memory
+Ended command source sink status.WriteFault =
+    (text : List ℕ) × Intended command source text × AddsFront sink.old sink.new text × Rose sink.faults_before sink.faults_now
 
 pub record IsFaultless (before now : ℕ) : Type 0 where
   pub stays : now ≡ before

@@ -1,33 +1,145 @@
-ghost use Rattle.std.specs.Prelude.{◌*◌, ◌<◌, ◌^◌, IfOk};
-ghost use Rattle.tree_core.specs.Count.{size_of};
+ghost use Rattle.std.specs.Prelude.{◌*◌, ◌+◌, ◌<◌, ◌≤◌, ◌^◌, length, IfOk};
+ghost use Rattle.tree_core.specs.Count.{calls_of, size_of};
 ghost use Rattle.tree_core.specs.Formula.{tree_of};
-ghost use Rattle.answer_core.specs.Answers.{Answers};
+ghost use Rattle.validity_core.specs.Place.{bad_place};
+ghost use Rattle.eval_core.specs.Own.{setting};
+ghost use Rattle.answer_core.specs.Answers.{Answers, Judges, most_questions};
+ghost use Rattle.answer_core.specs.Parts.{AreFormulas, AreShapes, AreValues, formula_questions};
 
-use intersect::{exported, imported};
-use kind_table::Asks;
+use book_core::Reads;
+use eval_core::{Evaluator, Fault, valid};
+use intersect::{ImportRule, exported, imported};
+use kind_table::{Asks, Kinds, StaticResult};
+use print_core::Answer;
+use rectangle_core::Grid;
+use shape_core::run_static_analysis_on_node;
 use std::alloc::Global;
-use tree_core::{Memory, Node, Plain};
+use tree_core::{CellReferenceIndex, Memory, Node, Plain, Steps};
 
-/// The answer to a formula.
-#[derive(Debug, Drop)]
-pub struct Answer {
-    /// The formula as import makes it, where one value is wanted of the whole.
-    pub imported: Node,
-    /// The imported formula with each `@` dropped that can go, so that its import is the imported formula again.
-    pub exported: Node,
-}
-
-/// The answer to a formula by a table of kinds. The formula stays as it is, and has fewer than 2^63 nodes, since import may
-/// double them. The error means want of memory.
-pub fn answer_formula<K: Asks<Plain>>(
+/// The answer to a formula in a cell of a book, by a table of kinds and a rule of import; `limit`, from 1 to 16777216, is the
+/// greatest number of cells of an array that a function makes. The formula stays as it is, and has fewer than 2^63 nodes, since
+/// import may double them.
+///
+/// `BadRequest` comes exactly where the formula isn't valid there, with the first bad place, and takes no memory. The table is
+/// asked at most `2 * C * ((n + 1) * (n + 1) + 2)` times, with C calls in the formula and n `@`s in its import.
+pub fn answer_formula<K: Asks<L>, B: Reads<Plain>, L>(
     alloc: Global,
     kinds: &K,
+    book: &B,
+    rule: ImportRule,
+    limit: usize,
+    cell: CellReferenceIndex,
     node: &Node,
+    steps: &mut Steps<L>,
+) -> Result<Answer, Fault>
+    requires countable { 2 * size_of (tree_of node.now) < 2 ^ 64 }
+    ensures answers { IfOk result (Answers rule (setting (K.table kinds.now) (B.contents book.now) limit cell) (tree_of node.now)) }
+    ensures judged { Judges result (bad_place (K.table kinds.now) (length (B.contents book.now).sheets) cell (tree_of node.now)) }
+    ensures counted { steps.new ≤ steps.old + most_questions rule (K.table kinds.now) (tree_of node.now) }
+{
+    match valid(kinds, book, cell, node) {
+        Some(place) => Err(Fault::BadRequest(place)),
+        None => {
+            let answer = answer_of(alloc, kinds, book, rule, limit, cell, node, steps)?;
+            Ok(answer)
+        }
+    }
+}
+
+/// The same of any formula, valid or not.
+fn answer_of<K: Asks<L>, B: Reads<Plain>, L>(
+    alloc: Global,
+    kinds: &K,
+    book: &B,
+    rule: ImportRule,
+    limit: usize,
+    cell: CellReferenceIndex,
+    node: &Node,
+    steps: &mut Steps<L>,
 ) -> Result<Answer, Memory>
     requires countable { 2 * size_of (tree_of node.now) < 2 ^ 64 }
-    ensures { IfOk result (Answers (K.table kinds.now) node.now) }
+    ensures answers { IfOk result (Answers rule (setting (K.table kinds.now) (B.contents book.now) limit cell) (tree_of node.now)) }
+    ensures counted { steps.new ≤ steps.old + most_questions rule (K.table kinds.now) (tree_of node.now) }
 {
-    let imported = imported(alloc, node, true, kinds)?;
-    let exported = exported(alloc, &imported, true, kinds)?;
-    Ok(Answer { imported, exported })
+    let formulas = formulas_of(alloc, kinds, rule, node, steps)?;
+    let shapes = shapes_of(alloc, kinds, node, &formulas.imported, steps)?;
+    let values = values_of(alloc, kinds, book, limit, cell, node, &formulas.imported)?;
+    Ok(Answer {
+        exported: formulas.exported,
+        given_shape: shapes.given,
+        imported: formulas.imported,
+        imported_shape: shapes.imported,
+        legacy: values.legacy,
+        spilled: values.spilled,
+    })
+}
+
+/// The formulas of an answer.
+#[derive(Drop)]
+pub(crate) struct Formulas {
+    imported: Node,
+    exported: Node,
+}
+
+/// The shapes of an answer.
+#[derive(Clone, Copy, Drop)]
+pub(crate) struct Shapes {
+    given: StaticResult,
+    imported: StaticResult,
+}
+
+/// The values of an answer.
+#[derive(Drop)]
+pub(crate) struct Values {
+    spilled: Grid,
+    legacy: Grid,
+}
+
+fn formulas_of<K: Asks<L>, L>(
+    alloc: Global,
+    kinds: &K,
+    rule: ImportRule,
+    node: &Node,
+    steps: &mut Steps<L>,
+) -> Result<Formulas, Memory>
+    requires countable { 2 * size_of (tree_of node.now) < 2 ^ 64 }
+    ensures made { IfOk result (AreFormulas rule (K.table kinds.now) (tree_of node.now)) }
+    ensures counted { steps.new ≤ steps.old + formula_questions rule (K.table kinds.now) (tree_of node.now) }
+{
+    let imported = imported(alloc, node, true, kinds, rule, steps)?;
+    let exported = exported(alloc, &imported, true, kinds, rule, steps)?;
+    Ok(Formulas { imported, exported })
+}
+
+fn shapes_of<K: Asks<L>, L>(
+    alloc: Global,
+    kinds: &K,
+    given: &Node,
+    imported: &Node,
+    steps: &mut Steps<L>,
+) -> Result<Shapes, Memory>
+    ensures made { IfOk result (AreShapes (K.table kinds.now) (tree_of given.now) (tree_of imported.now)) }
+    ensures counted { steps.new ≤ steps.old + (calls_of (tree_of given.now) + calls_of (tree_of imported.now)) }
+{
+    let given = run_static_analysis_on_node(alloc, given, kinds, steps)?;
+    let imported = run_static_analysis_on_node(alloc, imported, kinds, steps)?;
+    Ok(Shapes { given, imported })
+}
+
+fn values_of<K: Kinds, B: Reads<Plain>>(
+    alloc: Global,
+    kinds: &K,
+    book: &B,
+    limit: usize,
+    cell: CellReferenceIndex,
+    given: &Node,
+    imported: &Node,
+) -> Result<Values, Memory>
+    ensures { IfOk result (AreValues (setting (K.table kinds.now) (B.contents book.now) limit cell) (tree_of given.now) (tree_of imported.now)) }
+{
+    let evaluator = Evaluator { kinds, book, limit };
+    let mut reads = Steps::new(Plain);
+    let spilled = evaluator.formula_value(alloc, given, cell, &mut reads)?;
+    let legacy = evaluator.formula_value(alloc, imported, cell, &mut reads)?;
+    Ok(Values { spilled, legacy })
 }

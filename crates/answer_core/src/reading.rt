@@ -1,63 +1,75 @@
-ghost use Rattle.std.specs.Prelude.{◌≡◌, ◌↔◌, codes, IsTrue, IfOk, IfErr};
-ghost use Rattle.answer_core.specs.Command.{IsAnswer};
-ghost use Rattle.answer_core.specs.Run.{IsAnswered, HasReason};
+ghost use Rattle.std.specs.Prelude.{◌≡◌, ◌≤◌, None, Some, IfOk, IfErr};
+ghost use Rattle.tree_core.specs.Count.{size_of};
+ghost use Rattle.tree_core.specs.Formula.{tree_of};
+ghost use Rattle.answer_core.specs.Answers.{Answers};
+ghost use Rattle.answer_core.specs.Run.{IsAnswered, IsOutput, HasReason, RefusedBy, asked_of, bad_of, setting_of, trace};
 ghost use Rattle.answer_core.specs.Refusal.{CountsRefusal};
 
 use crate::answer::answer_formula;
+use crate::command::Command;
 use crate::refusal::Refusal;
 use device_core::{Source, read_to_end};
+use intersect::ImportRule;
 use kind_table::CrateKinds;
-use print_core::answer_line;
-use request_core::read_request;
+use print_core::{Answer, answer_line};
+use request_core::{Request, read_request};
 use std::alloc::Global;
+use tree_core::{Plain, Steps};
 
-/// The line to write: for the word `answer` that of the answer to the request that the source has.
+/// The greatest number of cells of an array that a function makes.
+pub(crate) const CELL_LIMIT: usize = 1000000;
+
+/// The line that a command sends.
 pub(crate) fn line_for<S: Source>(
     alloc: Global,
-    words: &[String],
+    command: Option<Command>,
     source: &mut S,
 ) -> Result<Vec<u8>, Refusal>
-    ensures words { IfOk result (λ _. IsAnswer words.now) }
-    ensures line { IfOk result (λ line. IsAnswered (S.unread source.old) (S.unread source.new) line.items) }
-    ensures refusal { IfErr result (HasReason words.now (S.unread source.old) (S.unread source.new)
-        (S.faults source.old) (S.faults source.new)) }
-    ensures other_words { ¬ IsAnswer words.now → (source.new ≡ source.old) × (result ≡ Err Refusal.Usage) }
+    ensures line { IfOk result (λ line. IsOutput command
+        (trace (S.unread source.old) (S.unread source.new) (S.faults source.old) (S.faults source.new)) line.items) }
+    ensures refusal { IfErr result (HasReason command
+        (trace (S.unread source.old) (S.unread source.new) (S.faults source.old) (S.faults source.new))) }
+    ensures other_words { command ≡ None → (source.new ≡ source.old) × (result ≡ Err Refusal.Usage) }
     ensures counted { CountsRefusal (S.faults source.old) (S.faults source.new) result }
 {
-    if is_answer(words) {
-        answer(alloc, source)
-    } else {
-        Err(Refusal::Usage)
+    match command {
+        Some(Command::Answer) => answer(alloc, source),
+        None => Err(Refusal::Usage),
     }
-}
-
-fn is_answer(words: &[String]) -> bool
-    ensures { IsTrue result ↔ IsAnswer words.now }
-{
-    match words {
-        [word] => is_name(word.as_str()),
-        _ => false,
-    }
-}
-
-fn is_name(word: &str) -> bool
-    ensures { IsTrue result ↔ (word.now ≡ codes "answer") }
-{
-    word == "answer"
 }
 
 fn answer<S: Source>(alloc: Global, source: &mut S) -> Result<Vec<u8>, Refusal>
-    ensures line { IfOk result (λ line. IsAnswered (S.unread source.old) (S.unread source.new) line.items) }
-    ensures refusal { (words : _) → IsAnswer words → IfErr result (HasReason words (S.unread source.old) (S.unread source.new)
-        (S.faults source.old) (S.faults source.new)) }
+    ensures line { IfOk result (λ line. IsAnswered
+        (trace (S.unread source.old) (S.unread source.new) (S.faults source.old) (S.faults source.new)) line.items) }
+    ensures refusal { IfErr result (HasReason (Some Command.Answer)
+        (trace (S.unread source.old) (S.unread source.new) (S.faults source.old) (S.faults source.new))) }
     ensures counted { CountsRefusal (S.faults source.old) (S.faults source.new) result }
 {
     let bytes = read_to_end(alloc, source)?;
     let request = read_request(alloc, bytes.as_slice())?;
     drop(bytes);
-    let answer = answer_formula(alloc, &CrateKinds, &request.formula)?;
+    let answer = answer_to(alloc, &request)?;
     drop(request);
-    let line = answer_line(alloc, &answer.exported, &answer.imported)?;
+    let line = answer_line(alloc, &answer)?;
     drop(answer);
     Ok(line)
+}
+
+/// The answer to a request, by the table and the rule of the crate.
+fn answer_to(alloc: Global, request: &Request) -> Result<Answer, Refusal>
+    requires { size_of (tree_of request.now.formula) ≤ 16777216 }
+    ensures answers { IfOk result (Answers ImportRule.AsCrate (setting_of (asked_of request.now)) (tree_of request.now.formula)) }
+    ensures refusal { IfErr result (RefusedBy (bad_of (asked_of request.now))) }
+{
+    let answer = answer_formula(
+        alloc,
+        &CrateKinds,
+        &request.book,
+        ImportRule::AsCrate,
+        CELL_LIMIT,
+        request.cell,
+        &request.formula,
+        &mut Steps::new(Plain),
+    )?;
+    Ok(answer)
 }

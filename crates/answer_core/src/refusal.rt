@@ -1,18 +1,22 @@
-ghost use Rattle.std.specs.Prelude.{◌≡◌};
-ghost use Rattle.answer_core.specs.Refusal.{status_of, line_of};
+ghost use Rattle.std.specs.Prelude.{◌≡◌, ◌≤◌, length};
+ghost use Rattle.answer_core.specs.Refusal.{status_of, line_of, words_of};
 
 use crate::status::Status;
+use arrayvec::ArrayString;
 use device_core::ReadError;
-use request_core::RequestError;
+use eval_core::{Fault, Place};
+use itoa::Buffer;
+use request_core::FormError;
 use tree_core::Memory;
 
-/// Why there is no answer.
+/// Why nothing that was asked for is sent.
 #[derive(Clone, Copy, Debug)]
 pub(crate) enum Refusal {
     Usage,
     ReadFault,
     TooLong,
     BadJson,
+    BadRequest(Place),
     Memory,
 }
 
@@ -26,20 +30,37 @@ impl Refusal {
             Refusal::ReadFault => Status::ReadFault,
             Refusal::TooLong => Status::TooLong,
             Refusal::BadJson => Status::BadJson,
+            Refusal::BadRequest(place) => Status::BadRequest(place),
             Refusal::Memory => Status::Memory,
         }
     }
 
-    /// The line that is written, with its newline.
-    pub(crate) fn line(self) -> &'static [u8]
-        ensures { result.now ≡ line_of self }
+    /// The line that is written, with its newline. It takes no memory.
+    pub(crate) fn line(self) -> ArrayString<64>
+        ensures { result.bytes ≡ line_of self }
+    {
+        let mut line = ArrayString::new();
+        line.push_str(self.words());
+        if let Refusal::BadRequest(Place::Node(number)) = self {
+            let mut digits = Buffer::new();
+            line.push_str(digits.format(number));
+        }
+        line.push_str("\n");
+        line
+    }
+
+    fn words(self) -> &'static str
+        ensures words { result.now ≡ words_of self }
+        ensures few { length result.now ≤ 44 }
     {
         match self {
-            Refusal::Usage => b"usage: answer, cell ROW COLUMN or generate N\n",
-            Refusal::ReadFault => b"read fault\n",
-            Refusal::TooLong => b"too long\n",
-            Refusal::BadJson => b"bad json\n",
-            Refusal::Memory => b"memory\n",
+            Refusal::Usage => "usage: answer, cell ROW COLUMN or generate N",
+            Refusal::ReadFault => "read fault",
+            Refusal::TooLong => "too long",
+            Refusal::BadJson => "bad json",
+            Refusal::BadRequest(Place::Cell) => "bad request at cell",
+            Refusal::BadRequest(Place::Node(_)) => "bad request at node ",
+            Refusal::Memory => "memory",
         }
     }
 }
@@ -58,15 +79,28 @@ impl From<ReadError> for Refusal {
     }
 }
 
-impl From<RequestError> for Refusal {
-    ghost use Rattle.answer_core.specs.Refusal.{request_refusal};
+impl From<FormError> for Refusal {
+    ghost use Rattle.answer_core.specs.Refusal.{form_refusal};
 
-    ghost from_gives = { λ error refusal. refusal ≡ request_refusal error };
+    ghost from_gives = { λ error refusal. refusal ≡ form_refusal error };
 
-    fn from(error: RequestError) -> Refusal {
+    fn from(error: FormError) -> Refusal {
         match error {
-            RequestError::Memory => Refusal::Memory,
-            RequestError::NotOfForm => Refusal::BadJson,
+            FormError::Memory => Refusal::Memory,
+            FormError::NotOfForm => Refusal::BadJson,
+        }
+    }
+}
+
+impl From<Fault> for Refusal {
+    ghost use Rattle.answer_core.specs.Refusal.{fault_refusal};
+
+    ghost from_gives = { λ fault refusal. refusal ≡ fault_refusal fault };
+
+    fn from(fault: Fault) -> Refusal {
+        match fault {
+            Fault::BadRequest(place) => Refusal::BadRequest(place),
+            Fault::Memory => Refusal::Memory,
         }
     }
 }

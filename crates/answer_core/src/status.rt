@@ -1,6 +1,8 @@
 ghost use Rattle.std.specs.Prelude.{◌≡◌};
 ghost use Rattle.answer_core.specs.Status.{code_of};
 
+use eval_core::Place;
+
 /// How a run ended.
 #[derive(Clone, Copy, Debug, PartialEq, Eq)]
 pub enum Status {
@@ -10,6 +12,8 @@ pub enum Status {
     Usage,
     /// The input is no request.
     BadJson,
+    /// The request's formula isn't valid in its cell: the first bad place.
+    BadRequest(Place),
     /// The input has more than 16777216 bytes.
     TooLong,
     /// The source refused a call.
@@ -29,6 +33,7 @@ impl Status {
             Status::Done => 0,
             Status::Usage => 2,
             Status::BadJson => 3,
+            Status::BadRequest(_) => 4,
             Status::TooLong => 5,
             Status::ReadFault => 6,
             Status::WriteFault => 7,

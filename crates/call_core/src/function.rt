@@ -48,8 +48,8 @@ pub enum Function {
 }
 
 impl Function {
-    /// A number of its own for each kind.
-    fn code(self) -> u32
+    /// A number of its own for each kind: the own kinds from 0 on in the order above, and behind them the others by theirs.
+    pub fn code(self) -> u32
         ensures { result ≡ function_code self }
     {
         match self {
@@ -69,15 +69,6 @@ impl Function {
             Function::Wrapcols => 13,
             Function::Wraprows => 14,
             Function::Sequence => 15,
-            _ => self.later_code(),
-        }
-    }
-
-    fn later_code(self) -> u32
-        requires { 16 ≤ function_code self }
-        ensures { result ≡ function_code self }
-    {
-        match self {
             Function::Index => 16,
             Function::Offset => 17,
             Function::Choose => 18,
@@ -102,7 +93,6 @@ impl Function {
             Function::Bycol => 37,
             Function::Makearray => 38,
             Function::Other(number) => 39 + number as u32,
-            _ => unreachable!(),
         }
     }
 

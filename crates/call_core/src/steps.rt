@@ -14,7 +14,7 @@ pub struct Steps<L> {
 }
 
 /// The ledger of calls that count in a counter of their own.
-#[derive(Debug, Drop)]
+#[derive(Clone, Copy, Debug, PartialEq, Eq)]
 pub struct Plain;
 
 impl<L> Model for Steps<L> {

@@ -5,6 +5,8 @@ ghost use Rattle.device_core.specs.Reads.{CountsReadFaults};
 use crate::failed::Failed;
 use crate::source::Source;
 use std::alloc::{AllocError, Global};
+use std::error::Error;
+use std::fmt;
 
 /// The most bytes that are read in full: 16 MiB.
 pub const LIMIT: usize = 16_777_216;
@@ -22,6 +24,18 @@ pub enum ReadError {
     /// The source has more than `LIMIT` bytes.
     TooLong,
 }
+
+impl fmt::Display for ReadError {
+    fn fmt<W: fmt::Write>(&self, f: &mut fmt::Formatter<W>) -> fmt::Result {
+        match self {
+            ReadError::Memory => write!(f, "memory ran out"),
+            ReadError::Fault => write!(f, "the source refused a call"),
+            ReadError::TooLong => write!(f, "the source has more than {LIMIT} bytes"),
+        }
+    }
+}
+
+impl Error for ReadError {}
 
 impl From<AllocError> for ReadError {
     ghost use Rattle.device_core.specs.declared.read.ReadError.TheVariants.{Memory};

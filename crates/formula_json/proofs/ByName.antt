@@ -7,7 +7,7 @@ use Rattle.std.proofs.lemmas.Slice.Eq.{bytes_eq-Decides}
 use Rattle.call_core.specs.declared.function.Function.{Function}
 use Rattle.kind_table.specs.Names.{function_name, in_order}
 use Rattle.kind_table.proofs.Complete.{contained}
-use Rattle.formula_json.specs.Names.{has_name, kind_named}
+use Rattle.formula_json.specs.Kinds.{has_name, kind_named}
 
 -- what a search finds passes
 passes-first : {A : Type 0} (passes : Bool) (first found : A) (later : Option A) (test : A → Bool) → test first ≡ passes → (later ≡ Some found → test found ≡ true) → cond passes (Some first) later ≡ Some found → test found ≡ true

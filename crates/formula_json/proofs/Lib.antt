@@ -1,3 +1,3 @@
 pub mod ByName
-pub mod Each
+pub mod Nodes
 pub mod Seen

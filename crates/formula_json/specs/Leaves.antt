@@ -1,4 +1,4 @@
--- The nodes without children, of what stands at the places of their arrays.
+-- The nodes without children: of what stands at the places of their arrays, and what is written of them.
 --
 -- `boolean_of`          a truth value
 -- `number_of`           a number
@@ -14,117 +14,112 @@
 -- `table_of`            the name of a table
 -- `variable_of`         a variable
 -- `parse_error_of`      a text that is no formula
--- `leaf_of`             a node without children, by its sort
-use Rattle.std.specs.Prelude.{List, Option, Some}
-use Rattle.serde_json.specs.Data.{Data}
-use Rattle.tree_core.specs.declared.node.Node.{Node}
-use Rattle.tree_core.specs.declared.node.Node.TheVariants.{BooleanKind, NumberKind, StringKind, ErrorKind, EmptyArgKind, ReferenceKind, RangeKind, WrongReferenceKind, WrongRangeKind, ArrayKind, DefinedNameKind, TableNameKind, NamedVariableKind, ParseErrorKind}
-use Rattle.formula_json.specs.declared.tag.Leaf.{Leaf}
-use Rattle.formula_json.specs.declared.tag.Leaf.TheVariants.{Boolean, Number, Text, Error, Empty, Reference, Range, WrongReference, WrongRange, Array, DefinedName, Table, Variable, ParseError}
-use Rattle.formula_json.specs.Fields.{◌>>=◌, if_long, u32_at, id_at, i32_at, i64_at, truth_at, text_at, name_at}
-use Rattle.formula_json.specs.Literals.{rows_at}
-use Rattle.formula_json.specs.Names.{error_at}
+-- `leaf_of`             a node without children, by its tag
+-- `corner_at`, `corner_data`  where an end of a reference lies: whether row and column are absolute, then row and column
+-- `leaf_own`            what is written of a node without children, behind its tag
+use Rattle.std.specs.Prelude.{ℕ, ◌+◌, pos, List, [], ◌∷◌, ◌++◌, slice_get, Option, Some}
+use Rattle.serde_json.specs.Data.{Data, boolean, string}
+use Rattle.value_core.specs.ErrorName.{error_name}
+use Rattle.tree_core.specs.Label as label
+use Rattle.tree_core.specs.declared.corner.Corner.{Corner}
+use Rattle.tree_core.specs.Formula.{corner}
+use Rattle.formula_json.specs.declared.tag.LeafTag.{LeafTag}
+use Rattle.formula_json.specs.declared.tag.LeafTag.TheVariants.{Boolean, Number, Text, Error, Empty, Reference, Range, WrongReference, WrongRange, Array, DefinedName, Table, Variable, ParseError}
+use Rattle.value_json.specs.ErrorValues.{error_at}
+use Rattle.value_json.specs.Fields.{◌>>=◌, if_long, u32_at, id_at, i32_at, i64_at, truth_at, text_at, name_at}
+use Rattle.value_json.specs.Piece.{whole, text_or_null, number_or_null}
+use Rattle.value_json.specs.Values.{rows_in, rows_data}
 
-unfoldable pub boolean_of : List Data → Option Node
+unfoldable pub boolean_of : List Data → Option label.Leaf
 boolean_of places = if_long 2 places do
   truth ← truth_at 1 places
-  Some (BooleanKind truth)
+  Some (label.boolean truth)
 
-unfoldable pub number_of : List Data → Option Node
+unfoldable pub number_of : List Data → Option label.Leaf
 number_of places = if_long 2 places do
   millionths ← i64_at 1 places
-  Some (NumberKind millionths)
+  Some (label.number millionths)
 
-unfoldable pub text_of : List Data → Option Node
+unfoldable pub text_of : List Data → Option label.Leaf
 text_of places = if_long 2 places do
   text ← text_at 1 places
-  Some (StringKind text)
+  Some (label.string text)
 
-unfoldable pub error_of : List Data → Option Node
+unfoldable pub error_of : List Data → Option label.Leaf
 error_of places = if_long 2 places do
   error ← error_at 1 places
-  Some (ErrorKind error)
+  Some (label.error error)
 
-unfoldable pub empty_of : List Data → Option Node
-empty_of places = if_long 1 places (Some EmptyArgKind)
+unfoldable pub empty_of : List Data → Option label.Leaf
+empty_of places = if_long 1 places (Some label.empty)
 
-unfoldable pub reference_of : List Data → Option Node
+unfoldable pub corner_at : ℕ → List Data → Option Corner
+corner_at place places = do
+  absolute_row ← truth_at place places
+  absolute_column ← truth_at (place + 1) places
+  row ← i32_at (place + 2) places
+  column ← i32_at (place + 3) places
+  Some (corner absolute_row absolute_column row column)
+
+unfoldable pub reference_of : List Data → Option label.Leaf
 reference_of places = if_long 7 places do
-  sheet_index ← u32_at 1 places
-  sheet_name ← name_at 2 places
-  absolute_row ← truth_at 3 places
-  absolute_column ← truth_at 4 places
-  row ← i32_at 5 places
-  column ← i32_at 6 places
-  Some (ReferenceKind sheet_name sheet_index absolute_row absolute_column row column)
+  index ← u32_at 1 places
+  name ← name_at 2 places
+  end ← corner_at 3 places
+  Some (label.reference (record { name = name; index = index }) end)
 
-unfoldable pub range_of : List Data → Option Node
+unfoldable pub range_of : List Data → Option label.Leaf
 range_of places = if_long 11 places do
-  sheet_index ← u32_at 1 places
-  sheet_name ← name_at 2 places
-  absolute_row1 ← truth_at 3 places
-  absolute_column1 ← truth_at 4 places
-  row1 ← i32_at 5 places
-  column1 ← i32_at 6 places
-  absolute_row2 ← truth_at 7 places
-  absolute_column2 ← truth_at 8 places
-  row2 ← i32_at 9 places
-  column2 ← i32_at 10 places
-  Some (RangeKind sheet_name sheet_index absolute_row1 absolute_column1 row1 column1 absolute_row2 absolute_column2 row2 column2)
+  index ← u32_at 1 places
+  name ← name_at 2 places
+  left ← corner_at 3 places
+  right ← corner_at 7 places
+  Some (label.range (record { name = name; index = index }) left right)
 
-unfoldable pub wrong_reference_of : List Data → Option Node
+unfoldable pub wrong_reference_of : List Data → Option label.Leaf
 wrong_reference_of places = if_long 6 places do
-  sheet_name ← name_at 1 places
-  absolute_row ← truth_at 2 places
-  absolute_column ← truth_at 3 places
-  row ← i32_at 4 places
-  column ← i32_at 5 places
-  Some (WrongReferenceKind sheet_name absolute_row absolute_column row column)
+  name ← name_at 1 places
+  end ← corner_at 2 places
+  Some (label.wrong_reference name end)
 
-unfoldable pub wrong_range_of : List Data → Option Node
+unfoldable pub wrong_range_of : List Data → Option label.Leaf
 wrong_range_of places = if_long 10 places do
-  sheet_name ← name_at 1 places
-  absolute_row1 ← truth_at 2 places
-  absolute_column1 ← truth_at 3 places
-  row1 ← i32_at 4 places
-  column1 ← i32_at 5 places
-  absolute_row2 ← truth_at 6 places
-  absolute_column2 ← truth_at 7 places
-  row2 ← i32_at 8 places
-  column2 ← i32_at 9 places
-  Some (WrongRangeKind sheet_name absolute_row1 absolute_column1 row1 column1 absolute_row2 absolute_column2 row2 column2)
+  name ← name_at 1 places
+  left ← corner_at 2 places
+  right ← corner_at 6 places
+  Some (label.wrong_range name left right)
 
-unfoldable pub array_of : List Data → Option Node
+unfoldable pub array_of : List Data → Option label.Leaf
 array_of places = if_long 2 places do
-  rows ← rows_at 1 places
-  Some (ArrayKind rows)
+  rows ← slice_get places 1 >>= rows_in
+  Some (label.array rows)
 
-unfoldable pub defined_name_of : List Data → Option Node
+unfoldable pub defined_name_of : List Data → Option label.Leaf
 defined_name_of places = if_long 4 places do
   name ← text_at 1 places
   sheet ← id_at 2 places
   formula ← text_at 3 places
-  Some (DefinedNameKind (record { 0 = name; 1 = sheet; 2 = formula }))
+  Some (label.defined_name name sheet formula)
 
-unfoldable pub table_of : List Data → Option Node
+unfoldable pub table_of : List Data → Option label.Leaf
 table_of places = if_long 2 places do
   name ← text_at 1 places
-  Some (TableNameKind name)
+  Some (label.table_name name)
 
-unfoldable pub variable_of : List Data → Option Node
+unfoldable pub variable_of : List Data → Option label.Leaf
 variable_of places = if_long 3 places do
   name ← text_at 1 places
   id ← id_at 2 places
-  Some (NamedVariableKind name id)
+  Some (label.named_variable name id)
 
-unfoldable pub parse_error_of : List Data → Option Node
+unfoldable pub parse_error_of : List Data → Option label.Leaf
 parse_error_of places = if_long 4 places do
   formula ← text_at 1 places
   message ← text_at 2 places
   position ← u32_at 3 places
-  Some (ParseErrorKind formula message position)
+  Some (label.parse_error formula message position)
 
-unfoldable pub leaf_of : Leaf → List Data → Option Node
+unfoldable pub leaf_of : LeafTag → List Data → Option label.Leaf
 leaf_of Boolean places = boolean_of places
 leaf_of Number places = number_of places
 leaf_of Text places = text_of places
@@ -139,3 +134,22 @@ leaf_of DefinedName places = defined_name_of places
 leaf_of Table places = table_of places
 leaf_of Variable places = variable_of places
 leaf_of ParseError places = parse_error_of places
+
+abbrev pub corner_data : Corner → List Data
+corner_data corner = boolean corner.absolute_row ∷ boolean corner.absolute_column ∷ whole corner.row ∷ whole corner.column ∷ []
+
+abbrev pub leaf_own : label.Leaf → List Data
+leaf_own (label.boolean b) = boolean b ∷ []
+leaf_own (label.number n) = whole n ∷ []
+leaf_own (label.string t) = string t ∷ []
+leaf_own (label.error e) = string (error_name e) ∷ []
+leaf_own label.empty = []
+leaf_own (label.reference sheet corner) = whole (pos sheet.index) ∷ text_or_null sheet.name ∷ corner_data corner
+leaf_own (label.range sheet left right) = whole (pos sheet.index) ∷ text_or_null sheet.name ∷ corner_data left ++ corner_data right
+leaf_own (label.wrong_reference name corner) = text_or_null name ∷ corner_data corner
+leaf_own (label.wrong_range name left right) = text_or_null name ∷ corner_data left ++ corner_data right
+leaf_own (label.array rows) = rows_data rows ∷ []
+leaf_own (label.defined_name name scope formula) = string name ∷ number_or_null scope ∷ string formula ∷ []
+leaf_own (label.table_name name) = string name ∷ []
+leaf_own (label.named_variable name id) = string name ∷ number_or_null id ∷ []
+leaf_own (label.parse_error formula message position) = string formula ∷ string message ∷ whole (pos position) ∷ []

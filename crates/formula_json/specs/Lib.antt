@@ -1,9 +1,4 @@
-pub mod Answer
-pub mod Fields
-pub mod Objects
-pub mod Each
-pub mod Names
 pub mod Tags
+pub mod Kinds
 pub mod Leaves
-pub mod Literals
 pub mod Formula

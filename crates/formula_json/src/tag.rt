@@ -1,29 +1,33 @@
+//! The table of tags. A tag is found by its name by one match, and its name by another, since a search through a list would
+//! cost a comparison for each tag at each node; both are proved to go by the table in `specs/Tags.antt`.
 ghost use Rattle.std.specs.Prelude.{◌≡◌, map};
 ghost use Rattle.serde_json.specs.View.{view};
-ghost use Rattle.formula_json.specs.Answer.{Finds};
-ghost use Rattle.formula_json.specs.Tags.{tag_named, tag_at};
+ghost use Rattle.tree_core.specs.View.{here_in, leaf_in};
+ghost use Rattle.value_json.specs.Reading.{Finds};
+ghost use Rattle.formula_json.specs.Tags.{tag_named, tag_at, here_name, leaf_sort, leaf_name, operator_name, unary_name};
 
-use crate::error::RequestError;
-use crate::field::read_text;
 use serde_json::Value;
-use tree_core::{OpCompare, OpProduct, OpSum, OpUnary};
+use tree_core::{Closed, Leaf, OpCompare, OpProduct, OpSum, OpUnary, Operator, View};
+use value_json::{FormError, read_text};
 
 /// What a tag says of its node.
 #[derive(Clone, Copy)]
 pub enum Tag {
-    Leaf(Leaf),
-    Binary(Binary),
-    Unary(Unary),
+    Leaf(LeafTag),
+    RangeOperator,
+    Binary(Operator),
+    Unary(OpUnary),
+    Spill,
     Call,
-    Named,
+    NamedCall,
     Intersection,
     Lambda,
     LambdaCall,
 }
 
-/// The nodes without children.
+/// The tags of nodes without children.
 #[derive(Clone, Copy)]
-pub enum Leaf {
+pub enum LeafTag {
     Boolean,
     Number,
     Text,
@@ -40,61 +44,43 @@ pub enum Leaf {
     ParseError,
 }
 
-/// The operators with two sides.
-#[derive(Clone, Copy)]
-pub enum Binary {
-    Range,
-    Concatenate,
-    Power,
-    Sum(OpSum),
-    Product(OpProduct),
-    Compare(OpCompare),
-}
-
-/// The operators with one operand, `@` aside.
-#[derive(Clone, Copy)]
-pub enum Unary {
-    Sign(OpUnary),
-    Spill,
-}
-
 #[tactic(auto, unfolding(crate::specs::Tags::tag_named))]
 fn tag_named(name: &str) -> Option<Tag>
     ensures { result ≡ tag_named name.now }
 {
     Some(match name {
-        "bool" => Tag::Leaf(Leaf::Boolean),
-        "num" => Tag::Leaf(Leaf::Number),
-        "text" => Tag::Leaf(Leaf::Text),
-        "error" => Tag::Leaf(Leaf::Error),
-        "empty" => Tag::Leaf(Leaf::Empty),
-        "ref" => Tag::Leaf(Leaf::Reference),
-        "range" => Tag::Leaf(Leaf::Range),
-        "wrongref" => Tag::Leaf(Leaf::WrongReference),
-        "wrongrange" => Tag::Leaf(Leaf::WrongRange),
-        "array" => Tag::Leaf(Leaf::Array),
-        "name" => Tag::Leaf(Leaf::DefinedName),
-        "table" => Tag::Leaf(Leaf::Table),
-        "var" => Tag::Leaf(Leaf::Variable),
-        "parseerror" => Tag::Leaf(Leaf::ParseError),
-        "oprange" => Tag::Binary(Binary::Range),
-        "concat" => Tag::Binary(Binary::Concatenate),
-        "pow" => Tag::Binary(Binary::Power),
-        "add" => Tag::Binary(Binary::Sum(OpSum::Add)),
-        "sub" => Tag::Binary(Binary::Sum(OpSum::Minus)),
-        "mul" => Tag::Binary(Binary::Product(OpProduct::Times)),
-        "div" => Tag::Binary(Binary::Product(OpProduct::Divide)),
-        "lt" => Tag::Binary(Binary::Compare(OpCompare::LessThan)),
-        "gt" => Tag::Binary(Binary::Compare(OpCompare::GreaterThan)),
-        "eq" => Tag::Binary(Binary::Compare(OpCompare::Equal)),
-        "le" => Tag::Binary(Binary::Compare(OpCompare::LessOrEqualThan)),
-        "ge" => Tag::Binary(Binary::Compare(OpCompare::GreaterOrEqualThan)),
-        "ne" => Tag::Binary(Binary::Compare(OpCompare::NonEqual)),
-        "neg" => Tag::Unary(Unary::Sign(OpUnary::Minus)),
-        "percent" => Tag::Unary(Unary::Sign(OpUnary::Percentage)),
-        "spill" => Tag::Unary(Unary::Spill),
+        "bool" => Tag::Leaf(LeafTag::Boolean),
+        "num" => Tag::Leaf(LeafTag::Number),
+        "text" => Tag::Leaf(LeafTag::Text),
+        "error" => Tag::Leaf(LeafTag::Error),
+        "empty" => Tag::Leaf(LeafTag::Empty),
+        "ref" => Tag::Leaf(LeafTag::Reference),
+        "range" => Tag::Leaf(LeafTag::Range),
+        "wrongref" => Tag::Leaf(LeafTag::WrongReference),
+        "wrongrange" => Tag::Leaf(LeafTag::WrongRange),
+        "array" => Tag::Leaf(LeafTag::Array),
+        "name" => Tag::Leaf(LeafTag::DefinedName),
+        "table" => Tag::Leaf(LeafTag::Table),
+        "var" => Tag::Leaf(LeafTag::Variable),
+        "parseerror" => Tag::Leaf(LeafTag::ParseError),
+        "oprange" => Tag::RangeOperator,
+        "concat" => Tag::Binary(Operator::Concatenate),
+        "pow" => Tag::Binary(Operator::Power),
+        "add" => Tag::Binary(Operator::Sum(OpSum::Add)),
+        "sub" => Tag::Binary(Operator::Sum(OpSum::Minus)),
+        "mul" => Tag::Binary(Operator::Product(OpProduct::Times)),
+        "div" => Tag::Binary(Operator::Product(OpProduct::Divide)),
+        "lt" => Tag::Binary(Operator::Compare(OpCompare::LessThan)),
+        "gt" => Tag::Binary(Operator::Compare(OpCompare::GreaterThan)),
+        "eq" => Tag::Binary(Operator::Compare(OpCompare::Equal)),
+        "le" => Tag::Binary(Operator::Compare(OpCompare::LessOrEqualThan)),
+        "ge" => Tag::Binary(Operator::Compare(OpCompare::GreaterOrEqualThan)),
+        "ne" => Tag::Binary(Operator::Compare(OpCompare::NonEqual)),
+        "neg" => Tag::Unary(OpUnary::Minus),
+        "percent" => Tag::Unary(OpUnary::Percentage),
+        "spill" => Tag::Spill,
         "call" => Tag::Call,
-        "named" => Tag::Named,
+        "named" => Tag::NamedCall,
         "at" => Tag::Intersection,
         "lambda" => Tag::Lambda,
         "lambdacall" => Tag::LambdaCall,
@@ -104,11 +90,78 @@ fn tag_named(name: &str) -> Option<Tag>
 
 /// The tag at a place.
 #[tactic(auto, unfolding(crate::specs::Tags::tag_at))]
-pub fn read_tag(items: &[Value], place: usize) -> Result<Tag, RequestError>
+pub fn read_tag(items: &[Value], place: usize) -> Result<Tag, FormError>
     ensures { Finds result (tag_at place (map view items.now)) }
 {
     match tag_named(read_text(items, place)?) {
         Some(tag) => Ok(tag),
-        None => Err(RequestError::NotOfForm),
+        None => Err(FormError::NotOfForm),
+    }
+}
+
+/// The name of the tag of a node.
+pub fn tag_name(view: View) -> &'static str
+    ensures { result.now ≡ here_name (here_in view.entry) }
+{
+    match view {
+        View::Leaf(leaf) => leaf_name(leaf),
+        View::Closed(Closed::RangeOperator { .. }) => "oprange",
+        View::Closed(Closed::NamedCall { .. }) => "named",
+        View::Closed(Closed::Lambda { .. }) => "lambda",
+        View::Closed(Closed::LambdaCall { .. }) => "lambdacall",
+        View::Unary { kind, .. } => unary_name(kind),
+        View::Binary { operator, .. } => operator_name(operator),
+        View::Spill { .. } => "spill",
+        View::Call { .. } => "call",
+        View::Intersection { .. } => "at",
+    }
+}
+
+fn leaf_name(leaf: Leaf) -> &'static str
+    ensures { result.now ≡ leaf_name (leaf_sort (leaf_in leaf.entry)) }
+{
+    match leaf {
+        Leaf::Boolean(_) => "bool",
+        Leaf::Number(_) => "num",
+        Leaf::Text(_) => "text",
+        Leaf::Error(_) => "error",
+        Leaf::Empty => "empty",
+        Leaf::Reference { .. } => "ref",
+        Leaf::Range { .. } => "range",
+        Leaf::WrongReference { .. } => "wrongref",
+        Leaf::WrongRange { .. } => "wrongrange",
+        Leaf::Array(_) => "array",
+        Leaf::DefinedName(_) => "name",
+        Leaf::TableName(_) => "table",
+        Leaf::Variable { .. } => "var",
+        Leaf::ParseError { .. } => "parseerror",
+    }
+}
+
+fn operator_name(operator: Operator) -> &'static str
+    ensures { result.now ≡ operator_name operator }
+{
+    match operator {
+        Operator::Concatenate => "concat",
+        Operator::Power => "pow",
+        Operator::Sum(OpSum::Add) => "add",
+        Operator::Sum(OpSum::Minus) => "sub",
+        Operator::Product(OpProduct::Times) => "mul",
+        Operator::Product(OpProduct::Divide) => "div",
+        Operator::Compare(OpCompare::LessThan) => "lt",
+        Operator::Compare(OpCompare::GreaterThan) => "gt",
+        Operator::Compare(OpCompare::Equal) => "eq",
+        Operator::Compare(OpCompare::LessOrEqualThan) => "le",
+        Operator::Compare(OpCompare::GreaterOrEqualThan) => "ge",
+        Operator::Compare(OpCompare::NonEqual) => "ne",
+    }
+}
+
+fn unary_name(kind: OpUnary) -> &'static str
+    ensures { result.now ≡ unary_name kind }
+{
+    match kind {
+        OpUnary::Minus => "neg",
+        OpUnary::Percentage => "percent",
     }
 }

@@ -1,174 +1,128 @@
-use crate::{RequestError, read_node};
+use crate::{read_node, write_node};
+use json::Writer;
 use serde_json::Value;
+use std::alloc::Global;
 use std::test::Fail;
+use tree_core::{Function, Node, Nodes, OpSum, Operator, Text, Texts};
+use value_json::FormError;
 
-/// Formulas, at least one for each tag, and the nodes that they are.
-static EACH_TAG: [(&str, &str); 43] = [
-    (r#"["bool",true]"#, "BooleanKind(true)"),
+/// Forms of formulas, at least one for each tag. Each is what is written of the formula that it is read as.
+static FORMS: [&str; 44] = [
+    r#"["bool",true]"#,
+    r#"["bool",false]"#,
+    r#"["num",-9223372036854775808]"#,
+    r#"["num",9223372036854775807]"#,
+    r#"["text","a\"b\\c\nd\té\u0001"]"#,
+    r##"["error","#N/A"]"##,
+    r##"["error","#DIV/0!"]"##,
+    r#"["empty"]"#,
+    r#"["ref",4294967295,"A",true,false,2147483647,-2147483648]"#,
+    r#"["range",7,null,true,false,1,2,false,true,3,-4]"#,
+    r#"["range",7,"It's",true,false,1,2,false,true,3,-4]"#,
+    r#"["wrongref",null,false,true,5,-6]"#,
+    r#"["wrongrange","B",true,false,1,2,false,true,3,4]"#,
+    r#"["oprange",["num",1],["num",2]]"#,
+    r#"["concat",["num",1],["num",2]]"#,
+    r#"["pow",["num",1],["num",2]]"#,
+    r#"["add",["num",1],["num",2]]"#,
+    r#"["sub",["num",1],["num",2]]"#,
+    r#"["mul",["num",1],["num",2]]"#,
+    r#"["div",["num",1],["num",2]]"#,
+    r#"["lt",["num",1],["num",2]]"#,
+    r#"["gt",["num",1],["num",2]]"#,
+    r#"["eq",["num",1],["num",2]]"#,
+    r#"["le",["num",1],["num",2]]"#,
+    r#"["ge",["num",1],["num",2]]"#,
+    r#"["ne",["num",1],["num",2]]"#,
+    r#"["neg",["num",1]]"#,
+    r#"["percent",["num",1]]"#,
+    r#"["spill",["num",1]]"#,
+    r#"["call","PI"]"#,
+    r#"["call","SUM",["num",1],["empty"]]"#,
+    r#"["call","UNIQUE",["call",65535]]"#,
+    r#"["named","F",4294967295,["num",1],["num",2]]"#,
+    r##"["array",[[1,"A",true],[],[null,{"error":"#NULL!"}]]]"##,
+    r#"["array",[]]"#,
+    r#"["name","N",null,"A1"]"#,
+    r#"["name","N",0,""]"#,
+    r#"["table","T"]"#,
+    r#"["var","x",3]"#,
+    r#"["at",true,["at",false,["num",1]]]"#,
+    r#"["lambda",["x","y"],["num",1]]"#,
+    r#"["lambda",[],["num",1]]"#,
+    r#"["lambdacall",["num",1],["num",2],["num",3]]"#,
+    r#"["parseerror","=(","Unexpected end",2]"#,
+];
+
+/// Forms that are read, and what is written of the formula.
+static OTHER_FORMS: [(&str, &str); 3] = [
+    (r#" [ "t\u0065xt" , "Z\u0061" ] "#, r#"["text","Za"]"#),
+    (r#"["call",2]"#, r#"["call","PI"]"#),
     (
-        r#"["num",-9223372036854775808]"#,
-        "NumberKind(-9223372036854775808)",
-    ),
-    (
-        r#"["num",9223372036854775807]"#,
-        "NumberKind(9223372036854775807)",
-    ),
-    (
-        r#"["text","Z\u0061"]"#,
-        "StringKind(Text { string: \"Za\" })",
-    ),
-    (r##"["error","#N/A"]"##, "ErrorKind(NA)"),
-    (r##"["error","#DIV/0!"]"##, "ErrorKind(DIV)"),
-    (r#"["empty"]"#, "EmptyArgKind"),
-    (
-        r#"["ref",4294967295,"A",true,false,2147483647,-2147483648]"#,
-        "ReferenceKind { sheet_name: Some(Text { string: \"A\" }), sheet_index: 4294967295, absolute_row: true, absolute_column: false, row: 2147483647, column: -2147483648 }",
-    ),
-    (
-        r#"["range",7,null,true,false,1,2,false,true,3,4]"#,
-        "RangeKind { sheet_name: None, sheet_index: 7, absolute_row1: true, absolute_column1: false, row1: 1, column1: 2, absolute_row2: false, absolute_column2: true, row2: 3, column2: 4 }",
-    ),
-    (
-        r#"["wrongref",null,false,true,5,-6]"#,
-        "WrongReferenceKind { sheet_name: None, absolute_row: false, absolute_column: true, row: 5, column: -6 }",
-    ),
-    (
-        r#"["wrongrange","B",true,false,1,2,false,true,3,4]"#,
-        "WrongRangeKind { sheet_name: Some(Text { string: \"B\" }), absolute_row1: true, absolute_column1: false, row1: 1, column1: 2, absolute_row2: false, absolute_column2: true, row2: 3, column2: 4 }",
-    ),
-    (
-        r#"["oprange",["num",1],["num",2]]"#,
-        "OpRangeKind { left: Boxed { held: NumberKind(1) }, right: Boxed { held: NumberKind(2) } }",
-    ),
-    (
-        r#"["concat",["num",1],["num",2]]"#,
-        "OpConcatenateKind { left: Boxed { held: NumberKind(1) }, right: Boxed { held: NumberKind(2) } }",
-    ),
-    (
-        r#"["pow",["num",1],["num",2]]"#,
-        "OpPowerKind { left: Boxed { held: NumberKind(1) }, right: Boxed { held: NumberKind(2) } }",
-    ),
-    (
-        r#"["add",["num",1],["num",2]]"#,
-        "OpSumKind { kind: Add, left: Boxed { held: NumberKind(1) }, right: Boxed { held: NumberKind(2) } }",
-    ),
-    (
-        r#"["sub",["num",1],["num",2]]"#,
-        "OpSumKind { kind: Minus, left: Boxed { held: NumberKind(1) }, right: Boxed { held: NumberKind(2) } }",
-    ),
-    (
-        r#"["mul",["num",1],["num",2]]"#,
-        "OpProductKind { kind: Times, left: Boxed { held: NumberKind(1) }, right: Boxed { held: NumberKind(2) } }",
-    ),
-    (
-        r#"["div",["num",1],["num",2]]"#,
-        "OpProductKind { kind: Divide, left: Boxed { held: NumberKind(1) }, right: Boxed { held: NumberKind(2) } }",
-    ),
-    (
-        r#"["lt",["num",1],["num",2]]"#,
-        "CompareKind { kind: LessThan, left: Boxed { held: NumberKind(1) }, right: Boxed { held: NumberKind(2) } }",
-    ),
-    (
-        r#"["gt",["num",1],["num",2]]"#,
-        "CompareKind { kind: GreaterThan, left: Boxed { held: NumberKind(1) }, right: Boxed { held: NumberKind(2) } }",
-    ),
-    (
-        r#"["eq",["num",1],["num",2]]"#,
-        "CompareKind { kind: Equal, left: Boxed { held: NumberKind(1) }, right: Boxed { held: NumberKind(2) } }",
-    ),
-    (
-        r#"["le",["num",1],["num",2]]"#,
-        "CompareKind { kind: LessOrEqualThan, left: Boxed { held: NumberKind(1) }, right: Boxed { held: NumberKind(2) } }",
-    ),
-    (
-        r#"["ge",["num",1],["num",2]]"#,
-        "CompareKind { kind: GreaterOrEqualThan, left: Boxed { held: NumberKind(1) }, right: Boxed { held: NumberKind(2) } }",
-    ),
-    (
-        r#"["ne",["num",1],["num",2]]"#,
-        "CompareKind { kind: NonEqual, left: Boxed { held: NumberKind(1) }, right: Boxed { held: NumberKind(2) } }",
-    ),
-    (
-        r#"["neg",["num",1]]"#,
-        "UnaryKind { kind: Minus, right: Boxed { held: NumberKind(1) } }",
-    ),
-    (
-        r#"["percent",["num",1]]"#,
-        "UnaryKind { kind: Percentage, right: Boxed { held: NumberKind(1) } }",
-    ),
-    (
-        r#"["spill",["num",1]]"#,
-        "SpillRangeOperator { child: Boxed { held: NumberKind(1) } }",
-    ),
-    (
-        r#"["call","PI"]"#,
-        "FunctionKind { kind: Other(2), args: Items { held: [] } }",
-    ),
-    (
-        r#"["call","SUM",["num",1],["empty"]]"#,
-        "FunctionKind { kind: Other(13), args: Items { held: [NumberKind(1), EmptyArgKind] } }",
-    ),
-    (
-        r#"["call","UNIQUE",["call",65535]]"#,
-        "FunctionKind { kind: Unique, args: Items { held: [FunctionKind { kind: Other(65535), args: Items { held: [] } }] } }",
-    ),
-    (
-        r#"["named","F",4294967295,["num",1],["num",2]]"#,
-        "NamedFunctionKind { name: Text { string: \"F\" }, id: Some(4294967295), args: Items { held: [NumberKind(1), NumberKind(2)] } }",
-    ),
-    (
-        r##"["array",[[1,"A",true],[],[null,{"error":"#NULL!"}]]]"##,
-        "ArrayKind(Rows { rows: [[Number(1), String(Text { string: \"A\" }), Boolean(true)], [], [Empty, Error(NULL)]] })",
-    ),
-    (r#"["array",[]]"#, "ArrayKind(Rows { rows: [] })"),
-    (
-        r#"["name","N",null,"A1"]"#,
-        "DefinedNameKind(DefinedNameS(Text { string: \"N\" }, None, Text { string: \"A1\" }))",
-    ),
-    (
-        r#"["name","N",0,""]"#,
-        "DefinedNameKind(DefinedNameS(Text { string: \"N\" }, Some(0), Text { string: \"\" }))",
-    ),
-    (r#"["table","T"]"#, "TableNameKind(Text { string: \"T\" })"),
-    (
-        r#"["var","x",3]"#,
-        "NamedVariableKind { name: Text { string: \"x\" }, id: Some(3) }",
-    ),
-    (
-        r#"["at",true,["at",false,["num",1]]]"#,
-        "ImplicitIntersection { automatic: true, child: Boxed { held: ImplicitIntersection { automatic: false, child: Boxed { held: NumberKind(1) } } } }",
-    ),
-    (
-        r#"["lambda",["x","y"],["num",1]]"#,
-        "LambdaDefKind { parameters: Texts { texts: [Text { string: \"x\" }, Text { string: \"y\" }] }, body: Boxed { held: NumberKind(1) } }",
-    ),
-    (
-        r#"["lambda",[],["num",1]]"#,
-        "LambdaDefKind { parameters: Texts { texts: [] }, body: Boxed { held: NumberKind(1) } }",
-    ),
-    (
-        r#"["lambdacall",["num",1]]"#,
-        "LambdaCallKind { lambda: Boxed { held: NumberKind(1) }, args: Items { held: [] } }",
-    ),
-    (
-        r#"["lambdacall",["num",1],["num",2],["num",3]]"#,
-        "LambdaCallKind { lambda: Boxed { held: NumberKind(1) }, args: Items { held: [NumberKind(2), NumberKind(3)] } }",
-    ),
-    (
-        r#"["parseerror","=(","Unexpected end",2]"#,
-        "ParseErrorKind { formula: Text { string: \"=(\" }, message: Text { string: \"Unexpected end\" }, position: 2 }",
+        r#"["call",13,["call",458]]"#,
+        r#"["call","SUM",["call",458]]"#,
     ),
 ];
 
+fn written(alloc: Global, node: &Node) -> Result<Vec<u8>, Fail> {
+    let mut writer = Writer::new(Vec::new(alloc));
+    write_node(&mut writer, node)?;
+    Ok(writer.into_inner())
+}
+
 #[test]
-fn each_tag_is_read(rt: HostRuntime) -> Result<(), Fail> {
+fn each_form_is_read_and_written(rt: HostRuntime) -> Result<(), Fail> {
     let alloc = rt.alloc();
-    for &(formula, expected) in &EACH_TAG {
-        let value = Value::from_str(alloc, formula)?;
+    for &form in &FORMS {
+        let value = Value::from_str(alloc, form)?;
         let node = read_node(alloc, &value)?;
-        let printed = format!(in alloc; "{node:?}")?;
-        assert_eq!(rt; printed.as_str(), expected);
+        assert!(rt;
+            written(alloc, &node)?.as_slice() == form.as_bytes(),
+            "{form}"
+        );
     }
+    for &(form, other) in &OTHER_FORMS {
+        let value = Value::from_str(alloc, form)?;
+        let node = read_node(alloc, &value)?;
+        assert!(rt;
+            written(alloc, &node)?.as_slice() == other.as_bytes(),
+            "{form}"
+        );
+    }
+    Ok(())
+}
+
+/// A lambda of one parameter over a sum of a reference and a call, made by hand.
+fn lambda(alloc: Global) -> Result<Node, Fail> {
+    let reference = Node::ReferenceKind {
+        sheet_name: Some(Text::from_text(alloc, "S")?),
+        sheet_index: 1,
+        absolute_row: true,
+        absolute_column: false,
+        row: 3,
+        column: -4,
+    };
+    let mut args = Nodes::new(alloc);
+    args.add(Node::intersection(alloc, true, Node::NumberKind(5))?)?;
+    let call = Node::call(Function::Take, args);
+    let sum = Node::binary(alloc, Operator::Sum(OpSum::Minus), reference, call)?;
+    let mut parameters = Texts::new(alloc);
+    parameters
+        .push(Text::from_text(alloc, "x")?)
+        .map_err(|_| FormError::Memory)?;
+    let lambda = Node::lambda(alloc, parameters, sum)?;
+    Ok(lambda)
+}
+
+#[test]
+fn a_form_is_that_of_its_formula(rt: HostRuntime) -> Result<(), Fail> {
+    let alloc = rt.alloc();
+    let form =
+        r#"["lambda",["x"],["sub",["ref",1,"S",true,false,3,-4],["call","TAKE",["at",true,["num",5]]]]]"#;
+    let node = lambda(alloc)?;
+    assert_eq!(rt; written(alloc, &node)?.as_slice(), form.as_bytes());
+    let value = Value::from_str(alloc, form)?;
+    assert_eq!(rt; read_node(alloc, &value)?, node);
     Ok(())
 }
 
@@ -244,7 +198,7 @@ fn other_values_are_refused(rt: HostRuntime) -> Result<(), Fail> {
     for &text in &OTHER_VALUES {
         let value = Value::from_str(alloc, text)?;
         let refused = read_node(alloc, &value).err();
-        assert_eq!(rt; refused, Some(RequestError::NotOfForm), "{text}");
+        assert_eq!(rt; refused, Some(FormError::NotOfForm), "{text}");
     }
     Ok(())
 }

@@ -1,25 +1,22 @@
--- The imports of the arguments of a call, one by one.
+-- The arguments of a call, one by one.
 --   each-more     what comes of one argument more
 --   each-imports  the imports of all, as those of the trees
 --   each-afters   their shapes
-use Rattle.std.proofs.Common.{◌≡◌, ℕ, zero, suc, ◌+◌, List, [], ◌∷◌, ◌++◌, map, length, ◌<◌, get_or, arith, take, Bool, true, not, ◌&&◌, if◌then◌else◌, refl, sym, ap, ap₂, ◌∙◌}
+--   wants-of      whether one value is wanted of one argument
+use Rattle.std.proofs.Common.{◌≡◌, ℕ, zero, suc, ◌+◌, List, [], ◌∷◌, ◌++◌, Some, map, length, slice_get, ◌<◌, get_or, arith, take, Bool, false, ◌&&◌, refl, sym, ap, ap₂, ◌∙◌}
+use Rattle.std.specs.Option.{option_map_or}
 use Rattle.call_core.specs.declared.function.Function.{Function}
-use Rattle.kind_table.specs.declared.static_result.StaticResult.{StaticResult}
-use Rattle.kind_table.specs.declared.static_result.StaticResult.TheVariants.{Scalar}
-use Rattle.tree_core.specs.Label.{call}
-use Rattle.tree_core.specs.Tree.{tree, more, forest}
+use Rattle.tree_core.specs.Tree.{more, forest}
 use Rattle.tree_core.specs.Formula.{tree_of}
 use Rattle.tree_core.specs.declared.node.Node.{Node}
 use Rattle.kind_table.specs.Table.{Table}
-use Rattle.shape_core.specs.Shape.{shapes, shape, call_shape, shown_all}
-use Rattle.shape_core.proofs.Shapes.{shapes-forest}
+use Rattle.shape_core.specs.Shape.{shapes, shape}
+use Rattle.intersect.specs.declared.rule.ImportRule.{ImportRule}
 use Rattle.intersect.specs.Rule.{Rule}
 use Rattle.intersect.specs.ImportOf.{import_of}
-use Rattle.intersect.specs.After.{after, after_all, binds, is_large, wants_one}
-use Rattle.intersect.specs.ImportRule.{import_rule}
+use Rattle.intersect.specs.After.{after, after_all, is_scalar, is_wanted_of, signature_of, wants_one}
 use Rattle.intersect.specs.Arguments.{each}
 use Rattle.intersect.proofs.Below.{import_all}
-use Rattle.intersect.proofs.Classes.{call_after, import-call}
 
 pub each-more : {A B : Type 0} (f : ℕ → A → B) (args : List A) (i : ℕ) (arg : A) (before : List B) (it : B) → i < length args → arg ≡ get_or args i arg
     → before ≡ each f (take i args) → it ≡ f i arg → before ++ it ∷ [] ≡ each f (take (i + 1) args)
@@ -35,31 +32,26 @@ pub each-imports : (rule : Rule) (contexts : ℕ → Bool) (args : List Node)
 each-imports rule contexts [] = refl
 each-imports rule contexts (arg ∷ args) = ap (more (import_of rule (contexts 0) (tree_of arg))) (each-imports rule (λ i. contexts (suc i)) args)
 
-pub each-afters : (table : Table) (contexts : ℕ → Bool) (args : List Node)
-    → each (λ i arg. after table (contexts i) (tree_of arg)) args ≡ after_all table contexts (forest (map tree_of args))
-each-afters table contexts [] = refl
-each-afters table contexts (arg ∷ args) = ap (λ rest. after table (contexts 0) (tree_of arg) ∷ rest) (each-afters table (λ i. contexts (suc i)) args)
+module _ (which : ImportRule) (table : Table) where
+  pub each-afters : (contexts : ℕ → Bool) (args : List Node) → each (λ i arg. after which table (contexts i) (tree_of arg)) args ≡ after_all which table contexts (forest (map tree_of args))
+  each-afters contexts [] = refl
+  each-afters contexts (arg ∷ args) = ap (λ rest. after which table (contexts 0) (tree_of arg) ∷ rest) (each-afters (λ i. contexts (suc i)) args)
 
--- a call over arguments whose trees and shapes are those of their imports
-module _ (table : Table) (add : Bool) (kind : Function) (args : List Node) (given : List StaticResult) (nodes : List Node) (found : List StaticResult) (its_shape : StaticResult)
-    (of_given : given ≡ map (λ arg. shape table (tree_of arg)) args)
-    (of_nodes : map tree_of nodes ≡ each (λ i arg. import_of (import_rule table) (wants_one table kind given i) (tree_of arg)) args)
-    (of_found : found ≡ each (λ i arg. after table (wants_one table kind given i) (tree_of arg)) args)
-    (of_shape : its_shape ≡ call_shape table kind (shown_all (forest (map tree_of args))) found) where
-  contexts : wants_one table kind given ≡ wants_one table kind (shapes table (forest (map tree_of args)))
-  contexts = ap (wants_one table kind) (of_given ∙ sym (shapes-forest table args))
+  shapes-count : (args : List Node) → length (shapes table (forest (map tree_of args))) ≡ length args
+  shapes-count [] = refl
+  shapes-count (arg ∷ args) = ap suc (shapes-count args)
 
-  shape_is : its_shape ≡ call_after table kind (forest (map tree_of args))
-  shape_is = of_shape ∙ ap (call_shape table kind (shown_all (forest (map tree_of args))))
-      (of_found ∙ each-afters table (wants_one table kind given) args ∙ ap (λ c. after_all table c (forest (map tree_of args))) contexts)
+  shape-at : (args : List Node) (i : ℕ) (arg : Node) → Some arg ≡ slice_get args i → slice_get (shapes table (forest (map tree_of args))) i ≡ Some (shape table (tree_of arg))
+  shape-at [] i arg h = cc
+  shape-at (first ∷ args) zero arg h = let e : arg ≡ first = cc in ap (λ a. Some (shape table (tree_of a))) (sym e)
+  shape-at (first ∷ args) (suc i) arg h = shape-at args i arg h
 
-  pub call-tree : tree (if add && (not (binds kind) && is_large its_shape) then true ∷ [] else []) (call kind) (forest (map tree_of nodes))
-      ≡ import_of (import_rule table) add (tree [] (call kind) (forest (map tree_of args)))
-  call-tree = ap₂ (λ s us. tree (if add && (not (binds kind) && is_large s) then true ∷ [] else []) (call kind) us) shape_is
-      (ap forest of_nodes ∙ each-imports (import_rule table) (wants_one table kind given) args ∙ ap (λ c. import_all (import_rule table) c (forest (map tree_of args))) contexts)
-      ∙ sym (import-call table add kind (forest (map tree_of args)))
+  wants-at : (kind : Function) (args : List Node) (i : ℕ) (arg : Node) → Some arg ≡ slice_get args i
+      → wants_one which table kind (shapes table (forest (map tree_of args))) i ≡ (is_scalar (signature_of table kind (length args) i) && is_wanted_of which kind (shape table (tree_of arg)))
+  wants-at kind args i arg h =
+      ap₂ (λ n o. is_scalar (signature_of table kind n i) && option_map_or (is_wanted_of which kind) o false) (shapes-count args) (shape-at args i arg h)
 
-  pub call-shape : (if add && (not (binds kind) && is_large its_shape) then Scalar else its_shape) ≡ after table add (tree [] (call kind) (forest (map tree_of args)))
-  call-shape = ap (λ s. if add && (not (binds kind) && is_large s) then Scalar else s) shape_is
-
-pub ruleset arguments = (call-tree, call-shape)
+  pub wants-of : (kind : Function) (args items : List Node) (count i : ℕ) (arg : Node) → items ≡ args → count ≡ length args → Some arg ≡ slice_get items i
+      → (is_scalar (signature_of table kind count i) && is_wanted_of which kind (shape table (tree_of arg))) ≡ wants_one which table kind (shapes table (forest (map tree_of items))) i
+  wants-of kind args items count i arg e n h =
+      ap (λ k. is_scalar (signature_of table kind k i) && is_wanted_of which kind (shape table (tree_of arg))) (n ∙ ap length (sym e)) ∙ sym (wants-at kind items i arg h)

@@ -9,7 +9,7 @@ use Rattle.tree_core.specs.Tree.{Run, Tree, tree, Trees, none, more, children_of
 use Rattle.tree_core.specs.Place.{Place, child, run_at, with_runs, all_with_runs}
 use Rattle.tree_core.proofs.Places.{with_runs-run_at}
 use Rattle.intersect.specs.Rule.{Rule}
-use Rattle.intersect.specs.Imported.{merged}
+use Rattle.intersect.specs.Imported.{merged_run}
 use Rattle.intersect.specs.ImportOf.{opens, imported_run, import_of}
 
 abbrev pub import_all : Rule → (ℕ → Bool) → Trees → Trees
@@ -17,7 +17,7 @@ import_all rule contexts none = none
 import_all rule contexts (more t ts) = more (import_of rule (contexts 0) t) (import_all rule (λ i. contexts (suc i)) ts)
 
 abbrev pub root_run : Rule → Bool → Run → Label → Trees → Run
-root_run rule add run label ts = if add && rule.range_like label ts then true ∷ [] else merged run
+root_run rule add run label ts = if add && rule.range_like label ts then true ∷ [] else merged_run run
 
 all-below : (rule : Rule) (ts : Trees) (contexts : ℕ → Bool) (runs : ℕ → Place → Run)
     → ((i : ℕ) (t : Tree) → child ts i ≡ Some t → (place : Place) → runs i place ≡ imported_run rule (contexts i) t place)

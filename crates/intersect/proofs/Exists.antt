@@ -7,7 +7,7 @@ use Rattle.tree_core.specs.Place.{Place, at, run_at}
 use Rattle.tree_core.proofs.Places.{skeleton-with_runs, run_at-with_runs, own_run, runs_fix_the_tree}
 use Rattle.intersect.specs.Rule.{Rule, IsWantedRange, wanted, range_like_at}
 use Rattle.intersect.specs.Reached.{IsReached}
-use Rattle.intersect.specs.Imported.{merged, ImportedAt, Imported}
+use Rattle.intersect.specs.Imported.{merged_run, ImportedAt, Imported}
 use Rattle.intersect.specs.ImportOf.{reached, imported_run, import_of, ImportIsAFunction}
 use Rattle.intersect.proofs.Reach.{is_reached, reached_is}
 
@@ -18,8 +18,8 @@ within t place rule run = elim (at t place) as (λ o. option_map_or (λ s. rule.
   | Some s ↦ λ h. refl
 ]
 
-merged_run : (t : Tree) (place : Place) → option_map_or (λ _. merged (run_at t place)) (at t place) [] ≡ merged (run_at t place)
-merged_run t place = elim (at t place) as (λ o. option_map_or (λ _. merged (option_map_or run_of o [])) o [] ≡ merged (option_map_or run_of o [])) [ None ↦ refl | Some s ↦ refl ]
+merged-where : (t : Tree) (place : Place) → option_map_or (λ _. merged_run (run_at t place)) (at t place) [] ≡ merged_run (run_at t place)
+merged-where t place = elim (at t place) as (λ o. option_map_or (λ _. merged_run (option_map_or run_of o [])) o [] ≡ merged_run (option_map_or run_of o [])) [ None ↦ refl | Some s ↦ refl ]
 
 module _ (rule : Rule) (add : Bool) (given : Tree) (place : Place) where
   of_both : IsWantedRange rule add given place → (wanted rule add given place && range_like_at rule given place) ≡ true
@@ -40,7 +40,7 @@ module _ (rule : Rule) (add : Bool) (given : Tree) (place : Place) where
   run_imported : ImportedAt rule add given (import_of rule add given) place
   run_imported = record {
     inserted = λ r h. run_is (true ∷ []) (rw (reached_is rule add given place r, of_both h)) ∙ within given place rule (true ∷ []) h.range_like_here;
-    merges = λ r h. run_is (merged (run_at given place)) (rw (reached_is rule add given place r, not_both h)) ∙ merged_run given place;
+    merges = λ r h. run_is (merged_run (run_at given place)) (rw (reached_is rule add given place r, not_both h)) ∙ merged-where given place;
     stays = λ h. run_is (run_at given place) (rw (not_reached h)) ∙ own_run given place;
   }
 

@@ -12,9 +12,10 @@ use Rattle.tree_core.specs.Label.{Label, leaf, passing, spill, closed, call}
 use Rattle.tree_core.specs.Tree.{Run, Tree, tree, Trees, none, more, label_of, children_of}
 use Rattle.tree_core.specs.Place.{Place, at, child, run_at}
 use Rattle.kind_table.specs.Table.{Table}
+use Rattle.intersect.specs.declared.rule.ImportRule.{ImportRule}
 use Rattle.intersect.specs.Rule.{range_like_at}
 use Rattle.intersect.specs.After.{may_be_range_like}
-use Rattle.intersect.specs.Imported.{merged}
+use Rattle.intersect.specs.Imported.{merged_run}
 use Rattle.intersect.specs.Dropped.{IsSubsequence, Dropped, OneDropped}
 use Rattle.intersect.specs.Drops.{run_drops, drops, all_drops}
 use Rattle.intersect.specs.ImportOf.{opens, reached, import_of}
@@ -162,37 +163,37 @@ one_drop part whole h = drop_of part whole (trims_of part whole h.dropped) h.one
 
 -- ---- what is dropped at such a place does not come back
 
-never_like : (table : Table) (label : Label) (ts : Trees) → may_be_range_like label ≡ false → (import_rule table).range_like label ts ≡ false
-never_like table (leaf l) ts h = h
-never_like table (passing p) ts h = refl
-never_like table spill ts h = refl
-never_like table (closed c) ts h = h
-never_like table (call kind) ts h = rw h refl
+never_like : (which : ImportRule) (table : Table) (label : Label) (ts : Trees) → may_be_range_like label ≡ false → (import_rule which table).range_like label ts ≡ false
+never_like which table (leaf l) ts h = h
+never_like which table (passing p) ts h = refl
+never_like which table spill ts h = refl
+never_like which table (closed c) ts h = h
+never_like which table (call kind) ts h = rw h refl
 
-merged_length : (run : Run) → length (merged run) ≤ length run
+merged_length : (run : Run) → length (merged_run run) ≤ length run
 merged_length [] = omega arith
 merged_length (flag ∷ []) = omega arith
-merged_length (outer ∷ flag ∷ run) = let more_left : length (merged (flag ∷ run)) ≤ length (flag ∷ run) = merged_length (flag ∷ run) in omega arith
+merged_length (outer ∷ flag ∷ run) = let more_left : length (merged_run (flag ∷ run)) ≤ length (flag ∷ run) = merged_length (flag ∷ run) in omega arith
 
 not_true : (b : Bool) → not b ≡ true → b ≡ false
 not_true true h = cc
 not_true false h = refl
 
-module _ (table : Table) where
-  never_at : (t : Tree) (place : Place) → unlike t place ≡ true → range_like_at (import_rule table) t place ≡ false
-  never_at t place = elim (at t place) as (λ o. option_map_or (λ s. not (may_be_range_like (label_of s))) o false ≡ true → option_map_or (λ s. (import_rule table).range_like (label_of s) (children_of s)) o false ≡ false) [
+module _ (which : ImportRule) (table : Table) where
+  never_at : (t : Tree) (place : Place) → unlike t place ≡ true → range_like_at (import_rule which table) t place ≡ false
+  never_at t place = elim (at t place) as (λ o. option_map_or (λ s. not (may_be_range_like (label_of s))) o false ≡ true → option_map_or (λ s. (import_rule which table).range_like (label_of s) (children_of s)) o false ≡ false) [
     | None ↦ λ h. refl
-    | Some s ↦ λ h. never_like table (label_of s) (children_of s) (not_true (may_be_range_like (label_of s)) h)
+    | Some s ↦ λ h. never_like which table (label_of s) (children_of s) (not_true (may_be_range_like (label_of s)) h)
   ]
 
   and_false : (b : Bool) → (b && false) ≡ false
   and_false true = refl
   and_false false = refl
 
-  unreached : (add : Bool) (t : Tree) (place : Place) → inside t place ≡ true → reached (import_rule table) add t place ≡ false
+  unreached : (add : Bool) (t : Tree) (place : Place) → inside t place ≡ true → reached (import_rule which table) add t place ≡ false
   unreached add (tree run label ts) [] h = cc
   unreached add (tree run label ts) (i ∷ place) h =
-      let rule = import_rule table in
+      let rule = import_rule which table in
       let next = rule.context add label ts i in
       let there = elim (child ts i) as (λ o. option_map_or (λ c. inside c place) o false ≡ true → (b : Bool) → (b && option_map_or (λ c. reached rule next c place) o true) ≡ false) [
         | None ↦ λ e b. cc
@@ -206,26 +207,26 @@ module _ (table : Table) where
       by_label refl h
 
   -- import puts no `@` there
-  no_more : (add : Bool) (t : Tree) (place : Place) → (inside t place ≡ true) ⊎ (unlike t place ≡ true) → length (run_at (import_of (import_rule table) add t) place) ≤ length (run_at t place)
+  no_more : (add : Bool) (t : Tree) (place : Place) → (inside t place ≡ true) ⊎ (unlike t place ≡ true) → length (run_at (import_of (import_rule which table) add t) place) ≤ length (run_at t place)
   no_more add t place (inl h) =
-      let same : run_at (import_of (import_rule table) add t) place ≡ run_at t place = ((imports (import_rule table) add t).runs place).stays (λ r. false≢true (sym (unreached add t place h) ∙ reached_is (import_rule table) add t place r)) in
-      let long : length (run_at (import_of (import_rule table) add t) place) ≡ length (run_at t place) = ap length same in
+      let same : run_at (import_of (import_rule which table) add t) place ≡ run_at t place = ((imports (import_rule which table) add t).runs place).stays (λ r. false≢true (sym (unreached add t place h) ∙ reached_is (import_rule which table) add t place r)) in
+      let long : length (run_at (import_of (import_rule which table) add t) place) ≡ length (run_at t place) = ap length same in
       omega arith
   no_more add t place (inr h) =
-      let rule = import_rule table in
+      let rule = import_rule which table in
       let facts = (imports rule add t).runs place in
       elim (reached rule add t place) as (λ b. reached rule add t place ≡ b → length (run_at (import_of rule add t) place) ≤ length (run_at t place)) [
-        | true ↦ λ e. (let long : length (run_at (import_of rule add t) place) ≡ length (merged (run_at t place)) =
+        | true ↦ λ e. (let long : length (run_at (import_of rule add t) place) ≡ length (merged_run (run_at t place)) =
             ap length (facts.merges (is_reached rule add t place e) (λ w. false≢true (sym (never_at t place h) ∙ w.range_like_here))) in
-            let most : length (merged (run_at t place)) ≤ length (run_at t place) = merged_length (run_at t place) in omega arith)
+            let most : length (merged_run (run_at t place)) ≤ length (run_at t place) = merged_length (run_at t place) in omega arith)
         | false ↦ λ e. (let long : length (run_at (import_of rule add t) place) ≡ length (run_at t place) =
             ap length (facts.stays (λ r. false≢true (sym e ∙ reached_is rule add t place r))) in omega arith)
       ] refl
 
-  pub fixed_fails : (add : Bool) (part whole import : Tree) → IsFixed part whole → Dropped whole import → ¬ Alike (import_of (import_rule table) add part) import
+  pub fixed_fails : (add : Bool) (part whole import : Tree) → IsFixed part whole → Dropped whole import → ¬ Alike (import_of (import_rule which table) add part) import
   fixed_fails add part whole import h dropped comes =
-      let a : length (run_at (import_of (import_rule table) add part) h.place) ≤ length (run_at part h.place) = no_more add part h.place h.fixed in
+      let a : length (run_at (import_of (import_rule which table) add part) h.place) ≤ length (run_at part h.place) = no_more add part h.place h.fixed in
       let b : length (run_at whole h.place) ≤ length (run_at import h.place) = sub-length (run_at whole h.place) (run_at import h.place) (dropped.runs h.place) in
-      let c : length (run_at (import_of (import_rule table) add part) h.place) ≡ length (run_at import h.place) = comes.1 h.place in
+      let c : length (run_at (import_of (import_rule which table) add part) h.place) ≡ length (run_at import h.place) = comes.1 h.place in
       let d = h.longer in
       absurd (omega arith)

@@ -13,4 +13,5 @@ pub mod Fixed
 pub mod Exports
 pub mod Sizes
 pub mod Strips
-pub mod Parts
+pub mod Builds
+pub mod Decides

@@ -3,18 +3,18 @@ use Rattle.std.proofs.Common.{◌≡◌, ℕ, suc, ◌+◌, ◌*◌, ◌≤◌, 
 use Rattle.tree_core.specs.Count.{size_of, size_of_all}
 use Rattle.tree_core.specs.Tree.{Run, Tree, tree, Trees, none, more}
 use Rattle.intersect.specs.Rule.{Rule}
-use Rattle.intersect.specs.Imported.{merged}
+use Rattle.intersect.specs.Imported.{merged_run}
 use Rattle.intersect.specs.ImportOf.{opens, import_of}
 use Rattle.intersect.proofs.Below.{import_all, root_run, import_of-open, import_of-shut}
 
-merged_length : (run : Run) → length (merged run) ≤ length run
+merged_length : (run : Run) → length (merged_run run) ≤ length run
 merged_length [] = omega arith
 merged_length (flag ∷ []) = omega arith
-merged_length (outer ∷ flag ∷ run) = let rest : length (merged (flag ∷ run)) ≤ length (flag ∷ run) = merged_length (flag ∷ run) in omega arith
+merged_length (outer ∷ flag ∷ run) = let rest : length (merged_run (flag ∷ run)) ≤ length (flag ∷ run) = merged_length (flag ∷ run) in omega arith
 
-run_length : (b : Bool) (run : Run) → length (if b then true ∷ [] else merged run) ≤ length run + 1
+run_length : (b : Bool) (run : Run) → length (if b then true ∷ [] else merged_run run) ≤ length run + 1
 run_length true run = omega arith
-run_length false run = let most : length (merged run) ≤ length run = merged_length run in omega arith
+run_length false run = let most : length (merged_run run) ≤ length run = merged_length run in omega arith
 
 module _ (rule : Rule) where
   mutual

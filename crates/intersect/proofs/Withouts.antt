@@ -3,20 +3,20 @@
 --   sides     so of the two sides of an operator
 use Rattle.std.proofs.Common.{◌≡◌, ℕ, zero, suc, ◌+◌, ◌-◌, ◌<◌, List, [], ◌∷◌, ◌++◌, length, map, slice_get, slice_set, take, get_or, Some, Bool, true, false, if◌then◌else◌, ◌≢◌, refl, sym, ap, ap₂, ◌∙◌, arith, subst}
 use Rattle.std.proofs.lemmas.List.{length-map, length-append, map-append, append-nil}
-use Rattle.tree_core.specs.Label.{Binary, Label, leaf, passing, binary, unary, spill, closed, call}
+use Rattle.value_core.specs.declared.operator.Operator.{Operator}
+use Rattle.tree_core.specs.Label.{Leaf, Closed, Label, leaf, passing, binary, unary, spill, closed, call}
 use Rattle.tree_core.specs.Tree.{Run, Tree, tree, Trees, none, more, forest, label_of, under}
-use Rattle.tree_core.specs.Formula.{tree_of, one, two, between}
-use Rattle.tree_core.specs.declared.operator.OpUnary.{OpUnary}
+use Rattle.tree_core.specs.Formula.{tree_of, one, two, between, bare_leaf}
+use Rattle.value_core.specs.declared.operator.OpUnary.{OpUnary}
 use Rattle.call_core.specs.declared.function.Function.{Function}
 use Rattle.tree_core.specs.declared.node.Node.{Node}
-use Rattle.tree_class.specs.Class.{IsWhole}
 use Rattle.intersect.specs.After.{may_be_range_like}
 use Rattle.intersect.specs.ImportRule.{is_closed}
 use Rattle.intersect.specs.Drops.{run_drops, drops, all_drops, IsWithout, IsWithoutAll, Over, OverAll}
-use Rattle.intersect.specs.declared.without.Trial.{Trial}
-use Rattle.intersect.specs.declared.without.Trial.TheVariants.{Formula, Beyond}
-use Rattle.intersect.specs.declared.without.TrialAll.{TrialAll}
-use Rattle.intersect.specs.declared.without.TrialAll.TheVariants.{Formulas, Beyond as BeyondAll}
+use Rattle.intersect.specs.declared.numbered_drop.Trial.{Trial}
+use Rattle.intersect.specs.declared.numbered_drop.Trial.TheVariants.{Formula, Beyond}
+use Rattle.intersect.specs.declared.numbered_drop.TrialAll.{TrialAll}
+use Rattle.intersect.specs.declared.numbered_drop.TrialAll.TheVariants.{Formulas, Beyond as BeyondAll}
 
 pub get-map : {A B : Type 0} (f : A → B) (xs : List A) (i : ℕ) (x : A) → slice_get xs i ≡ Some x → slice_get (map f xs) i ≡ Some (f x)
 get-map f [] i x h = cc
@@ -53,19 +53,6 @@ behind front rest number left (Beyond still) e h = let long : length (front ++ r
 
 -- ---- each class
 
-drops-whole : (t : Tree) → IsWhole t → drops t ≡ []
-drops-whole (tree [] (leaf l) none) h = refl
-drops-whole (tree [] (leaf l) (more t ts)) h = absurd h
-drops-whole (tree [] (passing p) ts) h = absurd h
-drops-whole (tree [] spill ts) h = absurd h
-drops-whole (tree [] (closed c) ts) h = refl
-drops-whole (tree [] (call kind) ts) h = absurd h
-drops-whole (tree (flag ∷ run) (leaf l) ts) h = absurd h
-drops-whole (tree (flag ∷ run) (passing p) ts) h = absurd h
-drops-whole (tree (flag ∷ run) spill ts) h = absurd h
-drops-whole (tree (flag ∷ run) (closed c) ts) h = absurd h
-drops-whole (tree (flag ∷ run) (call kind) ts) h = absurd h
-
 map-map : {A B C : Type 0} (f : A → B) (g : B → C) (xs : List A) → map g (map f xs) ≡ map (λ x. g (f x)) xs
 map-map f g [] = refl
 map-map f g (x ∷ xs) = ap (λ rest. g (f x) ∷ rest) (map-map f g xs)
@@ -76,7 +63,7 @@ drops-one t = append-nil (map one (drops t))
 drops-two : (t u : Tree) → all_drops (two t u) ≡ map (λ v. two v u) (drops t) ++ map (λ v. two t v) (drops u)
 drops-two t u = ap (λ rest. map (λ v. two v u) (drops t) ++ map (λ us. more t us) rest) (drops-one u) ∙ ap (λ rest. map (λ v. two v u) (drops t) ++ rest) (map-map one (λ us. more t us) (drops u))
 
-drops-between : (operator : Binary) (t u : Tree) → drops (between operator t u) ≡ map (λ v. between operator v u) (drops t) ++ map (λ v. between operator t v) (drops u)
+drops-between : (operator : Operator) (t u : Tree) → drops (between operator t u) ≡ map (λ v. between operator v u) (drops t) ++ map (λ v. between operator t v) (drops u)
 drops-between operator t u =
     ap (map (λ us. tree [] (passing (binary operator)) us)) (drops-two t u)
     ∙ map-append (λ us. tree [] (passing (binary operator)) us) _ _
@@ -114,8 +101,11 @@ drops-under-kept automatic (tree run label ts) may =
 
 -- ---- what is found, by class
 
-pub without-whole : (t : Tree) (number : ℕ) → IsWhole t → number ≡ length (drops t) + number
-without-whole t number h = rw (drops-whole t h) (let none_before : number ≡ 0 + number = omega arith in none_before)
+pub without-leaf : (l : Leaf) (number : ℕ) → number ≡ length (drops (bare_leaf l)) + number
+without-leaf l number = omega arith
+
+pub without-closed : (c : Closed) (ts : Trees) (number : ℕ) → number ≡ length (drops (tree [] (closed c) ts)) + number
+without-closed c ts number = omega arith
 
 pub without-unary : (kind : OpUnary) (t : Tree) (number : ℕ) (part found : Trial) → IsWithout (drops t) number part → Over (λ u. tree [] (passing (unary kind)) (one u)) part found
     → IsWithout (drops (tree [] (passing (unary kind)) (one t))) number found
@@ -147,13 +137,13 @@ pub without-kept : (automatic : Bool) (t : Tree) (number : ℕ) (part found : Tr
 without-kept automatic t number part found may h o =
     subst (λ all. IsWithout all number found) (sym (drops-under-kept automatic t may)) (in_whole (under automatic) (drops t) number part found h o)
 
-pub without-left : (operator : Binary) (t u : Tree) (number : ℕ) (part whole : Node) → slice_get (drops t) number ≡ Some (tree_of part) → tree_of whole ≡ between operator (tree_of part) u
+pub without-left : (operator : Operator) (t u : Tree) (number : ℕ) (part whole : Node) → slice_get (drops t) number ≡ Some (tree_of part) → tree_of whole ≡ between operator (tree_of part) u
     → slice_get (drops (between operator t u)) number ≡ Some (tree_of whole)
 without-left operator t u number part whole h e =
     ap (λ all. slice_get all number) (drops-between operator t u)
     ∙ get-front _ _ number _ (get-map (λ v. between operator v u) (drops t) number (tree_of part) h) ∙ ap Some (sym e)
 
-pub without-right : (operator : Binary) (t u : Tree) (number left : ℕ) (part found : Trial) → number ≡ length (drops t) + left → IsWithout (drops u) left part → Over (λ v. between operator t v) part found
+pub without-right : (operator : Operator) (t u : Tree) (number left : ℕ) (part found : Trial) → number ≡ length (drops t) + left → IsWithout (drops u) left part → Over (λ v. between operator t v) part found
     → IsWithout (drops (between operator t u)) number found
 without-right operator t u number left part found e h o =
     subst (λ all. IsWithout all number found) (sym (drops-between operator t u))
@@ -208,7 +198,7 @@ pub set-argument : (args : List Node) (i : ℕ) (arg node : Node) (number left :
     → slice_get (drops (tree_of arg)) left ≡ Some (tree_of node) → slice_get (all_drops (forest (map tree_of args))) number ≡ Some (forest (map tree_of (slice_set args i node)))
 set-argument args i arg node number left within is before h = set-count args i arg node left within is h number before
 
-pub ruleset withouts = (without-whole, without-unary, without-spill, without-call)
+pub ruleset withouts = (without-leaf, without-closed, without-unary, without-spill, without-call)
 
 pub ruleset unders = (without-first, without-under, without-kept)
 

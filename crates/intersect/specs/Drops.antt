@@ -11,10 +11,10 @@ use Rattle.tree_core.specs.Tree.{Run, Tree, tree, Trees, none, more, forest}
 use Rattle.tree_core.specs.Formula.{tree_of}
 use Rattle.intersect.specs.After.{may_be_range_like}
 use Rattle.intersect.specs.ImportRule.{is_closed}
-use Rattle.intersect.specs.declared.without.Trial.{Trial}
-use Rattle.intersect.specs.declared.without.Trial.TheVariants.{Formula, Beyond}
-use Rattle.intersect.specs.declared.without.TrialAll.{TrialAll}
-use Rattle.intersect.specs.declared.without.TrialAll.TheVariants.{Formulas, Beyond as BeyondAll}
+use Rattle.intersect.specs.declared.numbered_drop.Trial.{Trial}
+use Rattle.intersect.specs.declared.numbered_drop.Trial.TheVariants.{Formula, Beyond}
+use Rattle.intersect.specs.declared.numbered_drop.TrialAll.{TrialAll}
+use Rattle.intersect.specs.declared.numbered_drop.TrialAll.TheVariants.{Formulas, Beyond as BeyondAll}
 
 abbrev pub run_drops : Bool → Run → List Run
 run_drops may [] = []

@@ -10,6 +10,7 @@ use Rattle.tree_core.specs.Count.{ats_of}
 use Rattle.tree_core.specs.Flags.{Alike}
 use Rattle.tree_core.specs.Formula.{tree_of}
 use Rattle.tree_core.specs.Tree.{Tree}
+use Rattle.intersect.specs.declared.rule.ImportRule.{ImportRule}
 use Rattle.intersect.specs.declared.export.Tried.{Tried}
 use Rattle.intersect.specs.declared.export.Tried.TheVariants as tried
 use Rattle.intersect.specs.declared.export.Swept.{Swept}
@@ -18,31 +19,31 @@ use Rattle.intersect.specs.Drops.{drops}
 use Rattle.intersect.specs.ImportOf.{import_of}
 use Rattle.intersect.specs.ImportRule.{import_rule}
 
-abbrev pub ComesBack : Table → Bool → (import formula : Tree) → Type 0
-ComesBack table add import formula = Alike (import_of (import_rule table) add formula) import
+abbrev pub ComesBack : ImportRule → Table → Bool → (import formula : Tree) → Type 0
+ComesBack which table add import formula = Alike (import_of (import_rule which table) add formula) import
 
-pub record IsOnTheWay (table : Table) (add : Bool) (import export : Tree) : Type 0 where
+pub record IsOnTheWay (which : ImportRule) (table : Table) (add : Bool) (import export : Tree) : Type 0 where
   pub dropped : Dropped export import
-  pub comes_back : ComesBack table add import export
+  pub comes_back : ComesBack which table add import export
 
-abbrev pub NoneBack : Table → Bool → (import export : Tree) → ℕ → Type 0
-NoneBack table add import export number = (i : ℕ) (further : Tree) → i < number → slice_get (drops export) i ≡ Some further → ¬ ComesBack table add import further
+abbrev pub NoneBack : ImportRule → Table → Bool → (import export : Tree) → ℕ → Type 0
+NoneBack which table add import export number = (i : ℕ) (further : Tree) → i < number → slice_get (drops export) i ≡ Some further → ¬ ComesBack which table add import further
 
-pub record IsKept (table : Table) (add : Bool) (import export : Tree) (number : ℕ) : Type 0 where
+pub record IsKept (which : ImportRule) (table : Table) (add : Bool) (import export : Tree) (number : ℕ) : Type 0 where
   pub there : number < length (drops export)
-  pub stays : (further : Tree) → slice_get (drops export) number ≡ Some further → ¬ ComesBack table add import further
+  pub stays : (further : Tree) → slice_get (drops export) number ≡ Some further → ¬ ComesBack which table add import further
 
-pub record IsDropped (table : Table) (add : Bool) (import export : Tree) (number : ℕ) (further : Tree) : Type 0 where
+pub record IsDropped (which : ImportRule) (table : Table) (add : Bool) (import export : Tree) (number : ℕ) (further : Tree) : Type 0 where
   pub is : slice_get (drops export) number ≡ Some further
-  pub comes_back : ComesBack table add import further
+  pub comes_back : ComesBack which table add import further
 
-abbrev pub IsTried : Table → Bool → (import export : Tree) → ℕ → Tried → Type 0
-IsTried table add import export number (tried.Dropped node) = IsDropped table add import export number (tree_of node)
-IsTried table add import export number tried.Kept = IsKept table add import export number
-IsTried table add import export number tried.Beyond = length (drops export) ≤ number
+abbrev pub IsTried : ImportRule → Table → Bool → (import export : Tree) → ℕ → Tried → Type 0
+IsTried which table add import export number (tried.Dropped node) = IsDropped which table add import export number (tree_of node)
+IsTried which table add import export number tried.Kept = IsKept which table add import export number
+IsTried which table add import export number tried.Beyond = length (drops export) ≤ number
 
-pub record IsSwept (table : Table) (add : Bool) (import export : Tree) (swept : Swept) : Type 0 where
-  pub on_the_way : IsOnTheWay table add import (tree_of swept.export)
+pub record IsSwept (which : ImportRule) (table : Table) (add : Bool) (import export : Tree) (swept : Swept) : Type 0 where
+  pub on_the_way : IsOnTheWay which table add import (tree_of swept.export)
   pub fewer : ats_of (tree_of swept.export) ≤ ats_of export
   pub dropped : swept.dropped ≡ true → ats_of (tree_of swept.export) < ats_of export
-  pub least : swept.dropped ≡ false → NoneBack table add import (tree_of swept.export) (length (drops (tree_of swept.export)))
+  pub least : swept.dropped ≡ false → NoneBack which table add import (tree_of swept.export) (length (drops (tree_of swept.export)))

@@ -9,7 +9,7 @@ use Rattle.std.specs.Option.{option_map_or}
 use Rattle.tree_core.specs.Tree.{Run, Tree, tree, label_of, children_of}
 use Rattle.tree_core.specs.Place.{Place, child, run_at, with_runs}
 use Rattle.intersect.specs.Rule.{Rule, wanted, range_like_at}
-use Rattle.intersect.specs.Imported.{merged, Imported}
+use Rattle.intersect.specs.Imported.{merged_run, Imported}
 
 abbrev pub is_bare : Run → Bool
 is_bare [] = true
@@ -24,7 +24,7 @@ reached rule add t (i ∷ place) = opens rule add t && option_map_or (λ c. reac
 
 abbrev pub imported_run : Rule → Bool → Tree → Place → Run
 imported_run rule add t place =
-    if reached rule add t place then (if wanted rule add t place && range_like_at rule t place then true ∷ [] else merged (run_at t place)) else run_at t place
+    if reached rule add t place then (if wanted rule add t place && range_like_at rule t place then true ∷ [] else merged_run (run_at t place)) else run_at t place
 
 abbrev pub import_of : Rule → Bool → Tree → Tree
 import_of rule add t = with_runs t (imported_run rule add t)

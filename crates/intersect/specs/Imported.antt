@@ -1,5 +1,5 @@
 -- What import makes of a formula.
---   merged      the last flag of a run alone; no flag of an empty run
+--   merged_run      the last flag of a run alone; no flag of an empty run
 --   ImportedAt  the run at one place
 --   Imported    the skeleton stays, and each place has its run
 use Rattle.std.specs.Prelude.{◌≡◌, [], ◌∷◌, Bool, true}
@@ -8,16 +8,16 @@ use Rattle.tree_core.specs.Place.{Place, run_at}
 use Rattle.intersect.specs.Rule.{Rule, IsWantedRange}
 use Rattle.intersect.specs.Reached.{IsReached}
 
-abbrev pub merged : Run → Run
-merged [] = []
-merged (flag ∷ []) = flag ∷ []
-merged (outer ∷ flag ∷ run) = merged (flag ∷ run)
+abbrev pub merged_run : Run → Run
+merged_run [] = []
+merged_run (flag ∷ []) = flag ∷ []
+merged_run (outer ∷ flag ∷ run) = merged_run (flag ∷ run)
 
 pub record ImportedAt (rule : Rule) (add : Bool) (given imported : Tree) (place : Place) : Type 0 where
   -- one automatic `@` over a range-like node where one value is wanted
   pub inserted : IsReached rule add given place → IsWantedRange rule add given place → run_at imported place ≡ true ∷ []
   -- any other run is merged
-  pub merges : IsReached rule add given place → ¬ IsWantedRange rule add given place → run_at imported place ≡ merged (run_at given place)
+  pub merges : IsReached rule add given place → ¬ IsWantedRange rule add given place → run_at imported place ≡ merged_run (run_at given place)
   -- nothing changes where import doesn't reach
   pub stays : ¬ IsReached rule add given place → run_at imported place ≡ run_at given place
 

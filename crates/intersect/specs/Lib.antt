@@ -7,6 +7,7 @@ pub mod RangeText
 pub mod Ending
 pub mod After
 pub mod ImportRule
+pub mod Decisions
 pub mod Settled
 pub mod Dropped
 pub mod Exported

@@ -1,20 +1,20 @@
 -- A formula without the `@`s that import put: the automatic ones over nodes that may be range-like, but for those inside of a node that
 -- import does not enter.
---   kept                    what is left of a run
---   stripped, all_stripped  the formula, and each of some formulas
+--   kept_flags                    what is left of a run
+--   without_automatic, all_without_automatic  the formula, and each of some formulas
 use Rattle.std.specs.Prelude.{Bool, ◌&&◌, [], ◌∷◌, if◌then◌else◌}
 use Rattle.tree_core.specs.Tree.{Run, Tree, tree, Trees, none, more}
 use Rattle.intersect.specs.After.{may_be_range_like}
 use Rattle.intersect.specs.ImportRule.{is_closed}
 
-abbrev pub kept : Bool → Run → Run
-kept may [] = []
-kept may (flag ∷ run) = if flag && may then kept may run else flag ∷ kept may run
+abbrev pub kept_flags : Bool → Run → Run
+kept_flags may [] = []
+kept_flags may (flag ∷ run) = if flag && may then kept_flags may run else flag ∷ kept_flags may run
 
 abbrev mutual
-  pub stripped : Tree → Tree
-  stripped (tree run label ts) = tree (kept (may_be_range_like label) run) label (if is_closed label then ts else all_stripped ts)
+  pub without_automatic : Tree → Tree
+  without_automatic (tree run label ts) = tree (kept_flags (may_be_range_like label) run) label (if is_closed label then ts else all_without_automatic ts)
 
-  pub all_stripped : Trees → Trees
-  all_stripped none = none
-  all_stripped (more t ts) = more (stripped t) (all_stripped ts)
+  pub all_without_automatic : Trees → Trees
+  all_without_automatic none = none
+  all_without_automatic (more t ts) = more (without_automatic t) (all_without_automatic ts)

@@ -1,14 +1,14 @@
-ghost use Rattle.std.specs.Prelude.{◌≡◌, ◌&&◌};
+ghost use Rattle.std.specs.Prelude.{◌≡◌, ◌&&◌, not};
 ghost use Rattle.kind_table.specs.Table.{Table};
 ghost use Rattle.tree_core.specs.Formula.{tree_of};
 ghost use Rattle.tree_core.specs.Tree.{label_of};
-ghost use Rattle.tree_class.specs.Class.{IsWhole};
-ghost use Rattle.intersect.specs.After.{binds, is_large, is_scalar, is_whole_range_like, may_be_range_like, signature_of, wants_one};
+ghost use Rattle.tree_core.specs.View.{closed_in, leaf_in};
+ghost use Rattle.intersect.specs.After.{binds, is_large, is_range_like_leaf, is_range_operator, may_be_range_like, signature_of, takes_every, wants_argument};
 
 use crate::range_text::is_range_reference;
+use crate::rule::ImportRule;
 use kind_table::{Kinds, Signature, StaticResult, own_signature};
-use tree_class::Class;
-use tree_core::{Function, Node};
+use tree_core::{Closed, Function, Leaf, Node, View};
 
 /// Whether a shape may be that of many values.
 pub(crate) fn is_large(shape: StaticResult) -> bool
@@ -27,24 +27,38 @@ pub(crate) fn binds(kind: Function) -> bool
     kind == Function::Let || kind == Function::Lambda
 }
 
-/// Whether one value is wanted of an argument, by its number from 0 and by the given shapes of all.
+/// Whether a call that has this shape may stand for many values, and import may put an `@` over it.
+pub(crate) fn is_range_like_call(kind: Function, shape: StaticResult) -> bool
+    ensures { result ≡ (not (binds kind) && is_large shape) }
+{
+    !binds(kind) && is_large(shape)
+}
+
+/// Whether one value is wanted of one of so many arguments, by its number from 0 and by its given shape.
 pub(crate) fn wants_one<K: Kinds>(
     kinds: &K,
+    rule: ImportRule,
     kind: Function,
-    given: &[StaticResult],
+    count: usize,
     index: usize,
+    given: StaticResult,
 ) -> bool
-    ensures { result ≡ wants_one (K.table kinds.now) kind given.now index }
+    ensures { result ≡ wants_argument rule (K.table kinds.now) kind count index given }
 {
-    let scalar = match signature_of(kinds, kind, given.len(), index) {
+    let scalar = match signature_of(kinds, kind, count, index) {
         Signature::Scalar => true,
         Signature::Vector | Signature::Error => false,
     };
-    let large = match given.get(index) {
-        Some(shape) => is_large(*shape),
-        None => false,
-    };
-    scalar && large
+    scalar && (takes_every(rule, kind) || is_large(given))
+}
+
+fn takes_every(rule: ImportRule, kind: Function) -> bool
+    ensures { result ≡ takes_every rule kind }
+{
+    match rule {
+        ImportRule::AsCrate => false,
+        ImportRule::EveryScalar => !binds(kind),
+    }
 }
 
 fn signature_of<K: Kinds>(kinds: &K, kind: Function, count: usize, index: usize) -> Signature
@@ -61,37 +75,41 @@ fn signature_of<K: Kinds>(kinds: &K, kind: Function, count: usize, index: usize)
 pub(crate) fn may_be_range_like(node: &Node) -> bool
     ensures { result ≡ may_be_range_like (label_of (tree_of node.now)) }
 {
-    match Class::of(node) {
-        Class::Whole => is_whole_range_like(node),
-        Class::Call { kind, .. } => !binds(kind),
-        Class::Intersection { child, .. } => may_be_range_like(child),
-        Class::Unary { .. } | Class::Binary { .. } | Class::Spill { .. } => false,
+    match node.view() {
+        View::Leaf(leaf) => is_range_like_leaf(leaf),
+        View::Closed(closed) => is_range_operator(closed),
+        View::Call { kind, .. } => !binds(kind),
+        View::Intersection { child, .. } => may_be_range_like(child),
+        View::Unary { .. } | View::Binary { .. } | View::Spill { .. } => false,
     }
 }
 
-/// Whether a node that is taken as a whole may stand for many values.
-#[tactic(auto, using(tree_class::proofs::Trees::trees))]
-pub(crate) fn is_whole_range_like(node: &Node) -> bool
-    requires { IsWhole (tree_of node.now) }
-    ensures { result ≡ is_whole_range_like (label_of (tree_of node.now)) }
+/// Whether a node without children may stand for many values.
+pub(crate) fn is_range_like_leaf(leaf: Leaf) -> bool
+    ensures { result ≡ is_range_like_leaf (leaf_in leaf.entry) }
 {
-    match node {
-        Node::RangeKind { .. } | Node::NamedVariableKind { .. } | Node::OpRangeKind { .. } => true,
-        Node::DefinedNameKind(name) => is_range_reference(name.2.as_str()),
-        Node::BooleanKind(_)
-        | Node::NumberKind(_)
-        | Node::StringKind(_)
-        | Node::ErrorKind(_)
-        | Node::EmptyArgKind
-        | Node::ReferenceKind { .. }
-        | Node::WrongReferenceKind { .. }
-        | Node::WrongRangeKind { .. }
-        | Node::NamedFunctionKind { .. }
-        | Node::ArrayKind(_)
-        | Node::TableNameKind(_)
-        | Node::ParseErrorKind { .. }
-        | Node::LambdaDefKind { .. }
-        | Node::LambdaCallKind { .. } => false,
-        _ => unreachable!(),
+    match leaf {
+        Leaf::Range { .. } | Leaf::Variable { .. } => true,
+        Leaf::DefinedName(name) => is_range_reference(name.2.as_str()),
+        Leaf::Boolean(_)
+        | Leaf::Number(_)
+        | Leaf::Text(_)
+        | Leaf::Error(_)
+        | Leaf::Empty
+        | Leaf::Reference { .. }
+        | Leaf::WrongReference { .. }
+        | Leaf::WrongRange { .. }
+        | Leaf::Array(_)
+        | Leaf::TableName(_)
+        | Leaf::ParseError { .. } => false,
+    }
+}
+
+pub(crate) fn is_range_operator(closed: Closed) -> bool
+    ensures { result ≡ is_range_operator (closed_in closed.entry) }
+{
+    match closed {
+        Closed::RangeOperator { .. } => true,
+        Closed::NamedCall { .. } | Closed::Lambda { .. } | Closed::LambdaCall { .. } => false,
     }
 }

@@ -1,13 +1,16 @@
-ghost use Rattle.std.specs.Prelude.{◌≡◌, ◌<◌, ◌^◌, ◌↔◌, IfOk, OnOk, OnErr, IsTrue};
-ghost use Rattle.tree_core.specs.Count.{ats_of, size_of};
+ghost use Rattle.std.specs.Prelude.{◌≡◌, ◌+◌, ◌*◌, ◌<◌, ◌≤◌, ◌^◌, ◌↔◌, IfOk, OnOk, OnErr, IsTrue, length};
+ghost use Rattle.tree_core.specs.Count.{ats_of, calls_of, size_of};
 ghost use Rattle.tree_core.specs.Formula.{tree_of};
+ghost use Rattle.intersect.specs.declared.rule.ImportRule.TheVariants.{AsCrate};
+ghost use Rattle.intersect.specs.Drops.{drops};
 ghost use Rattle.intersect.specs.Export.{ComesBack, IsOnTheWay, IsSwept, IsTried};
 ghost use Rattle.intersect.specs.Exported.{Exported};
 ghost use Rattle.intersect.specs.ImportRule.{import_rule};
 
+use crate::import::import_of;
+use crate::numbered_drop::{Trial, drop_number};
+use crate::rule::ImportRule;
 use crate::stripped::without_automatic;
-use crate::visit::import_of;
-use crate::without::{Trial, without};
 use kind_table::Asks;
 use std::alloc::Global;
 use tree_core::{Memory, Node, Plain, Steps};
@@ -22,33 +25,56 @@ pub fn remove_redundant_implicit_intersection<K: Asks<Plain>>(
     add: bool,
     kinds: &K,
 ) -> Result<(), Memory>
-    requires own_import { ComesBack (K.table kinds.now) add (tree_of node.old) (tree_of node.old) }
+    requires own_import { ComesBack AsCrate (K.table kinds.now) add (tree_of node.old) (tree_of node.old) }
     requires countable { size_of (tree_of node.old) < 2 ^ 64 }
-    ensures ok { OnOk result (Exported (import_rule (K.table kinds.now)) add (tree_of node.old) (tree_of node.new)) }
+    ensures ok { OnOk result (Exported (import_rule AsCrate (K.table kinds.now)) add (tree_of node.old) (tree_of node.new)) }
     ensures memory { OnErr result (node.new ≡ node.old) }
 {
-    let export = exported(alloc, node, add, kinds)?;
+    let mut steps = Steps::new(Plain);
+    export_counted(alloc, node, add, kinds, ImportRule::AsCrate, &mut steps)?;
+    Ok(())
+}
+
+/// The same by either rule, with a counter of questions to the table: it is asked at most twice for each call, in each of
+/// `(n + 1) * (n + 1)` imports, where n is how many `@`s the formula has.
+pub fn export_counted<K: Asks<L>, L>(
+    alloc: Global,
+    node: &mut Node,
+    add: bool,
+    kinds: &K,
+    rule: ImportRule,
+    steps: &mut Steps<L>,
+) -> Result<(), Memory>
+    requires own_import { ComesBack rule (K.table kinds.now) add (tree_of node.old) (tree_of node.old) }
+    requires countable { size_of (tree_of node.old) < 2 ^ 64 }
+    ensures ok { OnOk result (Exported (import_rule rule (K.table kinds.now)) add (tree_of node.old) (tree_of node.new)) }
+    ensures memory { OnErr result (node.new ≡ node.old) }
+    ensures counted { steps.new ≤ steps.old + 2 * calls_of (tree_of node.old) * (ats_of (tree_of node.old) + 1) * (ats_of (tree_of node.old) + 1) }
+{
+    let export = exported(alloc, node, add, kinds, rule, steps)?;
     *node = export;
     Ok(())
 }
 
 /// The same as a new formula, which leaves the given one as it is.
 #[tactic(auto, using(crate::proofs::Exports::exported))]
-pub fn exported<K: Asks<Plain>>(
+pub fn exported<K: Asks<L>, L>(
     alloc: Global,
     node: &Node,
     add: bool,
     kinds: &K,
+    rule: ImportRule,
+    steps: &mut Steps<L>,
 ) -> Result<Node, Memory>
-    requires own_import { ComesBack (K.table kinds.now) add (tree_of node.now) (tree_of node.now) }
+    requires own_import { ComesBack rule (K.table kinds.now) add (tree_of node.now) (tree_of node.now) }
     requires countable { size_of (tree_of node.now) < 2 ^ 64 }
-    ensures { IfOk result (λ export. Exported (import_rule (K.table kinds.now)) add (tree_of node.now) (tree_of export)) }
+    ensures ok { IfOk result (λ export. Exported (import_rule rule (K.table kinds.now)) add (tree_of node.now) (tree_of export)) }
+    ensures counted { steps.new ≤ steps.old + 2 * calls_of (tree_of node.now) * (ats_of (tree_of node.now) + 1) * (ats_of (tree_of node.now) + 1) }
 {
-    let mut steps = Steps::new(Plain);
-    let mut export = first_try(alloc, node, add, kinds, &mut steps)?;
+    let mut export = first_try(alloc, node, add, kinds, rule, steps)?;
     let mut going = true;
     while going {
-        let swept = sweep(alloc, node, export, add, kinds, &mut steps)?;
+        let swept = sweep(alloc, node, export, add, kinds, rule, steps)?;
         going = swept.dropped;
         export = swept.export;
     }
@@ -62,15 +88,17 @@ fn first_try<K: Asks<L>, L>(
     import: &Node,
     add: bool,
     kinds: &K,
+    rule: ImportRule,
     steps: &mut Steps<L>,
 ) -> Result<Node, Memory>
-    requires own_import { ComesBack (K.table kinds.now) add (tree_of import.now) (tree_of import.now) }
+    requires own_import { ComesBack rule (K.table kinds.now) add (tree_of import.now) (tree_of import.now) }
     requires countable { size_of (tree_of import.now) < 2 ^ 64 }
-    ensures { IfOk result (λ export. IsOnTheWay (K.table kinds.now) add (tree_of import.now) (tree_of export)) }
+    ensures on_the_way { IfOk result (λ export. IsOnTheWay rule (K.table kinds.now) add (tree_of import.now) (tree_of export)) }
+    ensures counted { steps.new ≤ steps.old + 2 * calls_of (tree_of import.now) }
 {
     if import.at_count() > 0 {
         let bare = without_automatic(alloc, import)?;
-        if comes_back(alloc, import, &bare, add, kinds, steps)? {
+        if comes_back(alloc, import, &bare, add, kinds, rule, steps)? {
             return Ok(bare);
         }
         drop(bare);
@@ -104,17 +132,20 @@ fn comes_back<K: Asks<L>, L>(
     formula: &Node,
     add: bool,
     kinds: &K,
+    rule: ImportRule,
     steps: &mut Steps<L>,
 ) -> Result<bool, Memory>
-    ensures { IfOk result (λ back. IsTrue back ↔ ComesBack (K.table kinds.now) add (tree_of import.now) (tree_of formula.now)) }
+    ensures value { IfOk result (λ back. IsTrue back ↔ ComesBack rule (K.table kinds.now) add (tree_of import.now) (tree_of formula.now)) }
+    ensures counted { steps.new ≤ steps.old + 2 * calls_of (tree_of formula.now) }
 {
-    let visited = import_of(alloc, formula, add, kinds, steps)?;
-    let back = visited.node.same_but_flags(import);
-    drop(visited);
+    let again = import_of(alloc, formula, add, kinds, rule, steps)?;
+    let back = again.same_but_flags(import);
+    drop(again);
     Ok(back)
 }
 
-/// The formula without the `@` of a number, if its import comes back.
+/// The formula without the `@` of a number, if its import comes back. Past the last `@` nothing is asked.
+#[tactic(auto, using(crate::proofs::Exports::tried))]
 fn try_drop<K: Asks<L>, L>(
     alloc: Global,
     import: &Node,
@@ -122,14 +153,17 @@ fn try_drop<K: Asks<L>, L>(
     number: usize,
     add: bool,
     kinds: &K,
+    rule: ImportRule,
     steps: &mut Steps<L>,
 ) -> Result<Tried, Memory>
-    ensures { IfOk result (λ tried. IsTried (K.table kinds.now) add (tree_of import.now) (tree_of export.now) number tried) }
+    ensures value { IfOk result (λ tried. IsTried rule (K.table kinds.now) add (tree_of import.now) (tree_of export.now) number tried) }
+    ensures counted { steps.new ≤ steps.old + 2 * calls_of (tree_of export.now) }
+    ensures idle { length (drops (tree_of export.now)) ≤ number → steps.new ≡ steps.old }
 {
-    match without(alloc, export, number)? {
+    match drop_number(alloc, export, number)? {
         Trial::Beyond(_) => Ok(Tried::Beyond),
         Trial::Formula(further) => {
-            if comes_back(alloc, import, &further, add, kinds, steps)? {
+            if comes_back(alloc, import, &further, add, kinds, rule, steps)? {
                 Ok(Tried::Dropped(further))
             } else {
                 drop(further);
@@ -153,17 +187,19 @@ fn sweep<K: Asks<L>, L>(
     export: Node,
     add: bool,
     kinds: &K,
+    rule: ImportRule,
     steps: &mut Steps<L>,
 ) -> Result<Swept, Memory>
-    requires on_the_way { IsOnTheWay (K.table kinds.now) add (tree_of import.now) (tree_of export) }
+    requires on_the_way { IsOnTheWay rule (K.table kinds.now) add (tree_of import.now) (tree_of export) }
     requires countable { ats_of (tree_of export) < 2 ^ 64 }
-    ensures { IfOk result (λ swept. IsSwept (K.table kinds.now) add (tree_of import.now) (tree_of export) swept) }
+    ensures swept { IfOk result (λ swept. IsSwept rule (K.table kinds.now) add (tree_of import.now) (tree_of export) swept) }
+    ensures counted { steps.new ≤ steps.old + 2 * calls_of (tree_of import.now) * ats_of (tree_of export) }
 {
     let mut export = export;
     let mut dropped = false;
     let mut number = 0;
     loop {
-        match try_drop(alloc, import, &export, number, add, kinds, steps)? {
+        match try_drop(alloc, import, &export, number, add, kinds, rule, steps)? {
             Tried::Beyond => return Ok(Swept { export, dropped }),
             Tried::Kept => number += 1,
             Tried::Dropped(further) => {

@@ -1,15 +1,16 @@
 use super::*;
-use formula::formula;
+use formula_words::formula;
 use kind_table::CrateKinds;
 use std::alloc::Global;
 use std::process::Abort;
 use std::test::Fail;
+use tree_core::{Plain, Steps};
 
 mod exports;
-mod formula;
+mod nested;
 
-/// Formulas of which one value is wanted, and what they are imported as.
-static WANTED: [(&str, &str); 22] = [
+/// Formulas of which one value is wanted, and what they are imported as by the crate's rule.
+static WANTED: [(&str, &str); 25] = [
     ("A1:A5 1 + SIN/1", "A1:A5 1 + SIN/1"),
     ("A1:A3 @ 1 + SIN/1", "A1:A3 @ 1 + SIN/1"),
     ("A1:A5 @ SIN/1 @", "A1:A5 @ SIN/1 @"),
@@ -33,6 +34,9 @@ static WANTED: [(&str, &str); 22] = [
     ("A1:A3 @ @ lambda", "A1:A3 @ @ lambda"),
     ("x lambda A1:A3 @ @ apply/1", "x lambda A1:A3 @ @ apply/1"),
     ("A1:A3 @ @ f/1", "A1:A3 @ @ f/1"),
+    ("x SIN/1", "x SIN/1"),
+    ("A1:A3 5 - ABS/1", "A1:A3 5 - ABS/1"),
+    ("A1:A3 @ @ @ SIN/1 @ @ ABS/1", "A1:A3 @ @ @ SIN/1 @ ABS/1"),
     ("A1:A3 f/1 @ @", "A1:A3 f/1 @"),
     ("A1:A3 1 @ ~ + f/1 x +", "A1:A3 1 @ ~ + f/1 x ~ +"),
 ];
@@ -42,6 +46,17 @@ static NOT_WANTED: [(&str, &str); 3] = [
     ("A1:A3 @ ~", "A1:A3 @"),
     ("x A1:A3 +", "x A1:A3 +"),
     ("A1:A5 B1:B3 INDEX/2", "A1:A5 B1:B3 ~ INDEX/2"),
+];
+
+/// Formulas of which one value is wanted, and what they are imported as where every argument taken as one value wants one.
+static EVERY: [(&str, &str); 7] = [
+    ("A1:A5 1 + SIN/1", "A1:A5 ~ 1 + SIN/1"),
+    ("A1:A3 @ 1 + SIN/1", "A1:A3 ~ 1 + SIN/1"),
+    ("A1:A3 5 - ABS/1", "A1:A3 ~ 5 - ABS/1"),
+    ("x SIN/1", "x ~ SIN/1"),
+    ("x 1 x LET/3", "x 1 x LET/3"),
+    ("A1:A5 @ SIN/1 @", "A1:A5 @ SIN/1 @"),
+    ("A1:A5 B1:B3 SUM/2", "A1:A5 B1:B3 SUM/2"),
 ];
 
 static TEXTS: [(&str, bool); 12] = [
@@ -63,10 +78,15 @@ static TEXTS: [(&str, bool); 12] = [
 fn formulas_are_imported(rt: HostRuntime) -> Result<(), Fail> {
     let alloc = rt.alloc();
     for &(given, wanted) in &WANTED {
-        imports(&rt, alloc, true, given, wanted)?;
+        imports(&rt, alloc, ImportRule::AsCrate, true, given, wanted)?;
+        imports_in_place(&rt, alloc, true, given, wanted)?;
     }
     for &(given, wanted) in &NOT_WANTED {
-        imports(&rt, alloc, false, given, wanted)?;
+        imports(&rt, alloc, ImportRule::AsCrate, false, given, wanted)?;
+        imports_in_place(&rt, alloc, false, given, wanted)?;
+    }
+    for &(given, wanted) in &EVERY {
+        imports(&rt, alloc, ImportRule::EveryScalar, true, given, wanted)?;
     }
     import_is_a_function();
     import_settles();
@@ -77,20 +97,35 @@ fn formulas_are_imported(rt: HostRuntime) -> Result<(), Fail> {
 fn imports(
     rt: &impl Abort,
     alloc: Global,
+    rule: ImportRule,
     add: bool,
     given: &str,
     wanted: &str,
 ) -> Result<(), Fail> {
     let mut node = formula(alloc, given)?;
     let wanted = formula(alloc, wanted)?;
+    let mut steps = Steps::new(Plain);
     assert_eq!(rt;
-        imported(alloc, &node, add, &CrateKinds)?,
+        imported(alloc, &node, add, &CrateKinds, rule, &mut steps)?,
         wanted,
         "{given}"
     );
     assert_eq!(rt; node, formula(alloc, given)?, "{given} itself");
+    import_counted(alloc, &mut node, add, &CrateKinds, rule, &mut steps)?;
+    assert_eq!(rt; node, wanted, "{given} counted");
+    Ok(())
+}
+
+fn imports_in_place(
+    rt: &impl Abort,
+    alloc: Global,
+    add: bool,
+    given: &str,
+    wanted: &str,
+) -> Result<(), Fail> {
+    let mut node = formula(alloc, given)?;
     add_implicit_intersection(alloc, &mut node, add, &CrateKinds)?;
-    assert_eq!(rt; node, wanted, "{given} in place");
+    assert_eq!(rt; node, formula(alloc, wanted)?, "{given} in place");
     Ok(())
 }
 

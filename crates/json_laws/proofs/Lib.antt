@@ -1,9 +1,5 @@
-mod Numbers
-mod Places
-mod Names
-mod Arrays
-mod Tags
-mod Leaves
-mod Parents
-pub mod Children
-pub mod Layers
+mod KindsBack
+mod TagsBack
+mod LeavesBack
+mod LabelsBack
+pub mod NodesBack

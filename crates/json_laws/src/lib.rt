@@ -1,7 +1,7 @@
-//! Laws of the JSON form of a formula, as it is printed and as it is read.
+//! A law of the JSON form of a formula: what is written of a formula is read as it.
 #![tactic(auto)]
 
-pub use laws::{in_range_by_layer, printed_node_reads_back};
+pub use laws::written_formula_reads_back;
 
 mod laws;
 #[cfg(test)]

@@ -1,7 +1,6 @@
 use super::*;
 
 #[test]
-fn the_laws_may_be_cited() {
-    printed_node_reads_back();
-    in_range_by_layer();
+fn the_law_may_be_cited() {
+    written_formula_reads_back();
 }

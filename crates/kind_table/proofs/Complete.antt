@@ -1,14 +1,14 @@
 -- The order of names that the program searches: the names in it ascend, and every kind that has a name is in it. Both are
 -- computed on the lists themselves.
-use Rattle.std.proofs.Common.{◌≡◌, ℕ, zero, suc, ◌<◌, Bool, true, false, ◌&&◌, ◌||◌, eqb, nat_lt, List, [], ◌∷◌, length, slice_get, Option, Some, None, is_some, option_map, unwrap_or, Contains, ◌⊎◌, inl, inr, ⊎_elim, refl, sym, ap, ◌∙◌, arith, lit<}
+use Rattle.std.proofs.Common.{◌≡◌, ℕ, zero, suc, ◌+◌, ◌<◌, Bool, true, false, ◌&&◌, ◌||◌, eqb, nat_lt, List, [], ◌∷◌, length, slice_get, Option, Some, None, is_some, option_map, unwrap_or, Contains, ◌⊎◌, inl, inr, ⊎_elim, refl, sym, ap, ◌∙◌, arith, lit<}
 use Rattle.std.specs.Cmp.Lexicographic.{slice_cmp}
 use Rattle.std.specs.Ordering.{nat_cmp, is_lt}
 use Rattle.std.proofs.lemmas.Bool.Decides.{nat_tests, Decides-below_and}
-use Rattle.std.proofs.lemmas.Option.{slice_get_within}
+use Rattle.std.proofs.lemmas.Option.{slice_get_within, slice_get_past}
 use Rattle.call_core.specs.declared.function.Function.{Function}
 use Rattle.call_core.specs.declared.function.Function.TheVariants.{Unique, Filter, Take, Drop, Expand, Hstack, Vstack, Choosecols, Chooserows, Tocol, Torow, Transpose, Trimrange, Wrapcols, Wraprows, Sequence, Index, Offset, Choose, Row, Rows, Column, Columns, Indirect, Address, Areas, Formulatext, Arraytotext, Textsplit, Sort, Sortby, Let, Lambda, Map, Reduce, Scan, Byrow, Bycol, Makearray, Other}
 use Rattle.kind_table.specs.CrateTable.{kinds}
-use Rattle.kind_table.specs.Names.{names, crate_name, own_name, function_name, in_order}
+use Rattle.kind_table.specs.Names.{names, crate_name, own_name, own_names, function_name, in_order}
 
 abbrev pub text : Function → List ℕ
 text kind = unwrap_or (function_name kind) []
@@ -28,11 +28,11 @@ have_names [] = true
 have_names (kind ∷ rest) = is_some (function_name kind) && have_names rest
 
 pub in_order_has_names : have_names in_order ≡ true
-unfolding in_order names
+unfolding in_order names own_names
 in_order_has_names = refl
 
 pub in_order_ascends : ascends in_order ≡ true
-unfolding in_order names
+unfolding in_order names own_names
 in_order_ascends = refl
 
 -- ---- every number is there
@@ -62,6 +62,14 @@ unfolding kinds names
 length-kinds = refl
 
 -- ---- every own kind is there
+
+length-own_names : length own_names ≡ 39
+unfolding own_names
+length-own_names = refl
+
+-- only own kinds have such names
+pub other-unnamed : (id : ℕ) → own_name (Other id) ≡ None
+other-unnamed id = slice_get_past own_names (39 + id) (omega (arith, length-own_names))
 
 pub of_own : (kind : Function) → (own_name kind ≡ None → ⊥) → Contains in_order kind
 unfolding in_order
@@ -104,7 +112,7 @@ of_own Scan named = (386, lit< tt, refl)
 of_own Byrow named = (47, lit< tt, refl)
 of_own Bycol named = (46, lit< tt, refl)
 of_own Makearray named = (275, lit< tt, refl)
-of_own (Other id) named = absurd (named refl)
+of_own (Other id) named = absurd (named (other-unnamed id))
 
 -- ---- so every kind that has a name
 

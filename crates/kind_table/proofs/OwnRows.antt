@@ -6,7 +6,7 @@ use Rattle.kind_table.specs.declared.static_result.StaticResult.{StaticResult}
 use Rattle.kind_table.specs.declared.static_result.StaticResult.TheVariants.{Scalar, Array, Range, Unknown}
 use Rattle.kind_table.specs.Shape.{IsAtMost, IsWellFormed, scalar_arguments}
 use Rattle.kind_table.specs.ShapeLaws.{IsAtMost-refl, as_range_monotone, as_range_well_formed, scalar_arguments_monotone, scalar_arguments_well_formed}
-use Rattle.kind_table.specs.OwnRow.{OwnRowsNeverRise, OwnRowsAreWellFormed, unless_varied, same_row, same_column, line_row, stays_single, offset_row}
+use Rattle.kind_table.specs.OwnRow.{OwnRowsNeverRise, OwnRowsAreWellFormed, unless_varied, same_row, same_column, line_row, stays_single, offset_row, shows_of}
 
 line_row_monotone : (same : Option Bool) (lower upper : List StaticResult) → AllZip IsAtMost lower upper → IsAtMost (line_row same lower) (line_row same upper)
 line_row_monotone same [] upper each = tt
@@ -31,7 +31,7 @@ own_rows_never_rise Choose shows lower upper each =
     as_range_monotone (scalar_arguments lower) (scalar_arguments upper) (scalar_arguments_monotone lower upper each)
 own_rows_never_rise Row shows lower upper each = line_row_monotone (option_and_then same_row (slice_get shows 0)) lower upper each
 own_rows_never_rise Column shows lower upper each = line_row_monotone (option_and_then same_column (slice_get shows 0)) lower upper each
-own_rows_never_rise Offset shows lower upper each = IsAtMost-refl (offset_row shows)
+own_rows_never_rise Offset shows lower upper each = IsAtMost-refl (offset_row (shows_of shows))
 own_rows_never_rise kind shows lower upper each = tt
 
 unless_varied_well_formed : (single : Bool) → IsWellFormed (unless_varied single)

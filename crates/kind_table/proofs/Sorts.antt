@@ -2,6 +2,7 @@
 use Rattle.std.proofs.Common.{◌≡◌, ℕ, List, ◌↔◌, Option, Some, None, sym, ap, ◌∙◌}
 use Rattle.call_core.specs.declared.function.Function.{Function}
 use Rattle.call_core.specs.declared.function.Function.TheVariants.{Other}
+use Rattle.kind_table.proofs.Complete.{other-unnamed}
 use Rattle.kind_table.specs.Names.{crate_name, own_name, function_name, own_in, number_in}
 
 number_in-some : (found : Option Function) (id : ℕ) → number_in found ≡ Some id → found ≡ Some (Other id)
@@ -15,7 +16,7 @@ own_in-some (Some (Other number)) kind h = cc
 own_in-some (Some own) kind h = h
 
 own_name-function_name : (kind : Function) (name : List ℕ) → own_name kind ≡ Some name → (function_name kind ≡ Some name) × (own_in (Some kind) ≡ Some kind)
-own_name-function_name (Other id) name h = cc
+own_name-function_name (Other id) name h = let none = other-unnamed id in cc
 own_name-function_name kind name h = (h, cc)
 
 function_name-own_name : (kind : Function) (name : List ℕ) → own_in (Some kind) ≡ Some kind → function_name kind ≡ Some name → own_name kind ≡ Some name

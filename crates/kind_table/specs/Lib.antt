@@ -2,11 +2,11 @@ pub mod Shape
 pub mod OwnRow
 pub mod Pattern
 pub mod OwnSignature
+pub mod Fit
 pub mod Table
 pub mod ShapePattern
 pub mod CrateTable
 pub mod ShapeLaws
+pub mod FitLaws
 pub mod Lawful
-pub mod PairTable
-pub mod PairLaws
 pub mod Names

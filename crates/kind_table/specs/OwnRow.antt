@@ -7,7 +7,9 @@
 --   stays_single   a bare reference moved, with no size or only sizes of 1, by what the first, the fourth and the fifth argument show
 --   offset_by      OFFSET by the count of arguments and by what these three show
 --   offset_row     OFFSET: one value where it stays single, or where arguments are missing
---   own_row        the shape of a call of an own kind
+--   own_row_of     the shape of a call of an own kind, by what a row asks of the arguments
+--   shows_of       what is asked of arguments that show this
+--   own_row        the shape by what all arguments show
 --   OwnRowsNeverRise  the shape never rises when argument shapes fall, where the arguments show the same
 --   OwnRowsAreWellFormed  from well-formed argument shapes comes a well-formed shape
 use Rattle.std.specs.Prelude.{ℕ, Bool, true, false, ◌&&◌, if◌then◌else◌, nat_lt, List, [], ◌∷◌, length, slice_get, Option, Some, None, option_and_then, All}
@@ -15,6 +17,7 @@ use Rattle.std.specs.List.{AllZip}
 use Rattle.std.specs.Option.{option_map_or}
 use Rattle.call_core.specs.declared.function.Function.{Function}
 use Rattle.call_core.specs.declared.function.Function.TheVariants.{Choose, Row, Rows, Column, Columns, Address, Areas, Formulatext, Arraytotext, Offset}
+use Rattle.kind_table.specs.declared.own_shapes.Shows.{Shows}
 use Rattle.kind_table.specs.declared.shown.Shown.{Shown}
 use Rattle.kind_table.specs.declared.shown.Shown.TheVariants as shown
 use Rattle.kind_table.specs.declared.static_result.StaticResult.{StaticResult}
@@ -55,21 +58,27 @@ stays_single first height width = option_map_or is_reference first false && is_o
 abbrev pub offset_by : ℕ → Option Shown → Option Shown → Option Shown → StaticResult
 offset_by count first height width = if nat_lt count 3 then Scalar else unless_varied (stays_single first height width)
 
-abbrev pub offset_row : List Shown → StaticResult
-offset_row shows = offset_by (length shows) (slice_get shows 0) (slice_get shows 3) (slice_get shows 4)
+abbrev pub offset_row : Shows → StaticResult
+offset_row shows = offset_by shows.count shows.first shows.fourth shows.fifth
+
+abbrev pub own_row_of : Function → Shows → List StaticResult → StaticResult
+own_row_of Choose shows shapes = as_range (scalar_arguments shapes)
+own_row_of Row shows shapes = line_row (option_and_then same_row shows.first) shapes
+own_row_of Column shows shapes = line_row (option_and_then same_column shows.first) shapes
+own_row_of Offset shows shapes = offset_row shows
+own_row_of Rows shows shapes = Scalar
+own_row_of Columns shows shapes = Scalar
+own_row_of Areas shows shapes = Scalar
+own_row_of Address shows shapes = Scalar
+own_row_of Formulatext shows shapes = Scalar
+own_row_of Arraytotext shows shapes = Scalar
+own_row_of kind shows shapes = Unknown
+
+abbrev pub shows_of : List Shown → Shows
+shows_of shows = record { count = length shows; first = slice_get shows 0; fourth = slice_get shows 3; fifth = slice_get shows 4 }
 
 abbrev pub own_row : Function → List Shown → List StaticResult → StaticResult
-own_row Choose shows shapes = as_range (scalar_arguments shapes)
-own_row Row shows shapes = line_row (option_and_then same_row (slice_get shows 0)) shapes
-own_row Column shows shapes = line_row (option_and_then same_column (slice_get shows 0)) shapes
-own_row Offset shows shapes = offset_row shows
-own_row Rows shows shapes = Scalar
-own_row Columns shows shapes = Scalar
-own_row Areas shows shapes = Scalar
-own_row Address shows shapes = Scalar
-own_row Formulatext shows shapes = Scalar
-own_row Arraytotext shows shapes = Scalar
-own_row kind shows shapes = Unknown
+own_row kind shows = own_row_of kind (shows_of shows)
 
 abbrev pub OwnRowsNeverRise : Type 0
 OwnRowsNeverRise = (kind : Function) (shows : List Shown) (lower upper : List StaticResult) → AllZip IsAtMost lower upper → IsAtMost (own_row kind shows lower) (own_row kind shows upper)

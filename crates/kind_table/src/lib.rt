@@ -1,4 +1,12 @@
-//! The kinds of functions: how a call takes its arguments, and the shape that it has without being evaluated.
+//! The kinds of functions: how a call takes its arguments, the shape that it has without being evaluated, and its value.
+//!
+//! - `signature`, `static_result`, `shown`: how an argument is taken, a shape, what an argument shows of itself.
+//! - `kinds`, `asks`: what a table of kinds is, and how it is asked.
+//! - `pattern`, `shape_pattern`, `kind`, `arguments`: what a row of a table says.
+//! - `table`, `crate_kinds`: the table that comes with this crate, 458 kinds by number.
+//! - `own_table`, `own_signatures`, `own_shapes`: the kinds with rules of their own.
+//! - `names`, `name_order`: the names of both sorts.
+//! - `laws`: what holds of the own kinds.
 #![tactic(auto)]
 
 pub use arguments::scalar_arguments;
@@ -6,14 +14,14 @@ pub use asks::Asks;
 pub use crate_kinds::CrateKinds;
 pub use kinds::Kinds;
 pub use laws::own_rows_keep_order;
-pub use names::{function_name, function_named};
-pub use own_names::{own_by_name, own_name};
-pub use own_shapes::{line_row, offset_row, own_row};
+pub use names::{function_name, function_named, own_by_name, own_name};
+pub use own_shapes::{Shows, own_row};
 pub use own_signatures::own_signature;
-pub use pair_kinds::PairKinds;
+pub use rectangle_core::{Grid, Value};
 pub use shown::Shown;
 pub use signature::Signature;
 pub use static_result::StaticResult;
+pub use unit_class::UnitClass;
 
 mod arguments;
 mod asks;
@@ -23,10 +31,9 @@ mod kinds;
 mod laws;
 mod name_order;
 mod names;
-mod own_names;
 mod own_shapes;
 mod own_signatures;
-mod pair_kinds;
+mod own_table;
 mod pattern;
 mod shape_pattern;
 mod shown;
@@ -35,3 +42,4 @@ mod static_result;
 mod table;
 #[cfg(test)]
 mod tests;
+mod unit_class;

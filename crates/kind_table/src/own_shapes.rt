@@ -1,27 +1,31 @@
-ghost use Rattle.std.specs.Prelude.{◌≡◌, false, option_and_then, slice_get};
+ghost use Rattle.std.specs.Prelude.{◌≡◌, false, option_and_then};
 ghost use Rattle.std.specs.Option.{option_map_or};
-ghost use Rattle.kind_table.specs.OwnRow.{is_one_if_given, is_reference, line_row, offset_by, own_row, same_column, same_row, unless_varied};
+ghost use Rattle.kind_table.specs.OwnRow.{is_one_if_given, is_reference, line_row, offset_row, own_row_of, same_column, same_row, unless_varied};
 
 use crate::arguments::scalar_arguments;
 use crate::shown::Shown;
 use crate::static_result::StaticResult;
 use call_core::Function;
 
-/// The shape of a call of an own kind, by what each argument shows of itself and by the shape of each. `Unknown` for
-/// `Other`.
-pub fn own_row(kind: Function, shown: &[Shown], shapes: &[StaticResult]) -> StaticResult
-    ensures { result ≡ own_row kind shown.now shapes.now }
+/// What the arguments of a call show of themselves to the rows that ask for it: the first, the fourth and the fifth, where they
+/// are given, of so many.
+#[derive(Clone, Copy, Debug)]
+pub struct Shows {
+    pub count: usize,
+    pub first: Option<Shown>,
+    pub fourth: Option<Shown>,
+    pub fifth: Option<Shown>,
+}
+
+/// The shape of a call of an own kind, by what its arguments show and by the shape of each. `Unknown` for `Other`.
+pub fn own_row(kind: Function, shows: Shows, shapes: &[StaticResult]) -> StaticResult
+    ensures { result ≡ own_row_of kind shows shapes.now }
 {
     match kind {
         Function::Choose => scalar_arguments(shapes).as_range(),
-        Function::Row => line_row(same_row(shown_at(shown, 0)), shapes),
-        Function::Column => line_row(same_column(shown_at(shown, 0)), shapes),
-        Function::Offset => offset_row(
-            shown.len(),
-            shown_at(shown, 0),
-            shown_at(shown, 3),
-            shown_at(shown, 4),
-        ),
+        Function::Row => line_row(same_row(shows.first), shapes),
+        Function::Column => line_row(same_column(shows.first), shapes),
+        Function::Offset => offset_row(shows),
         Function::Rows
         | Function::Columns
         | Function::Areas
@@ -30,12 +34,6 @@ pub fn own_row(kind: Function, shown: &[Shown], shapes: &[StaticResult]) -> Stat
         | Function::Arraytotext => StaticResult::Scalar,
         _ => StaticResult::Unknown,
     }
-}
-
-fn shown_at(shown: &[Shown], index: usize) -> Option<Shown>
-    ensures { result ≡ slice_get shown.now index }
-{
-    shown.get(index).copied()
 }
 
 fn same_row(shown: Option<Shown>) -> Option<bool>
@@ -68,7 +66,7 @@ fn unless_varied(single: bool) -> StaticResult
 
 /// The shape of ROW or COLUMN: by whether a bare range as first argument stays on the axis, where it is one, and else by the
 /// first argument's shape.
-pub fn line_row(same: Option<bool>, shapes: &[StaticResult]) -> StaticResult
+fn line_row(same: Option<bool>, shapes: &[StaticResult]) -> StaticResult
     ensures { result ≡ line_row same shapes.now }
 {
     match (shapes.first(), same) {
@@ -79,19 +77,18 @@ pub fn line_row(same: Option<bool>, shapes: &[StaticResult]) -> StaticResult
     }
 }
 
-/// The shape of OFFSET with `count` arguments: by what the first, the fourth and the fifth show, where they are given.
-pub fn offset_row(
-    count: usize,
-    first: Option<Shown>,
-    height: Option<Shown>,
-    width: Option<Shown>,
-) -> StaticResult
-    ensures { result ≡ offset_by count first height width }
+/// The shape of OFFSET: by what the first, the fourth and the fifth argument show, where they are given.
+fn offset_row(shows: Shows) -> StaticResult
+    ensures { result ≡ offset_row shows }
 {
-    if count < 3 {
+    if shows.count < 3 {
         return StaticResult::Scalar;
     }
-    unless_varied(shows_reference(first) && is_one_if_given(height) && is_one_if_given(width))
+    unless_varied(
+        shows_reference(shows.first)
+            && is_one_if_given(shows.fourth)
+            && is_one_if_given(shows.fifth),
+    )
 }
 
 fn shows_reference(shown: Option<Shown>) -> bool

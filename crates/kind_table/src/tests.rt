@@ -1,6 +1,9 @@
 use super::*;
 use StaticResult::{Array, Range, Scalar, Unknown};
 use call_core::{Function, Plain, Steps};
+use std::alloc::Global;
+use std::test::Fail;
+use value_core::{ArrayNode, Error, Memory};
 
 /// Functions of each row, and how calls with so many arguments take each: as one value, as a vector, or not at all.
 static SIGNATURES: [&str; 102] = [
@@ -181,12 +184,6 @@ static OWN_SHAPES: [(Function, &[Shown], &[StaticResult], StaticResult); 16] = [
     (Function::Other(13), &[Shown::Nothing], &[Scalar], Unknown),
 ];
 
-static PAIRS: [(&[StaticResult], StaticResult); 3] = [
-    (&[Range(3, 1), Scalar, Array(1, 2)], Unknown),
-    (&[Range(1, 1), Unknown], Scalar),
-    (&[Unknown, Unknown], Unknown),
-];
-
 static ORDERED: [(StaticResult, StaticResult, bool); 6] = [
     (Scalar, Array(1, 1), true),
     (Array(2, 3), Range(2, 4), true),
@@ -257,12 +254,21 @@ fn shapes_go_by_the_rows(rt: HostRuntime) {
     );
 }
 
+fn shows(shown: &[Shown]) -> Shows {
+    Shows {
+        count: shown.len(),
+        first: shown.first().copied(),
+        fourth: shown.get(3).copied(),
+        fifth: shown.get(4).copied(),
+    }
+}
+
 #[test]
 fn shapes_of_own_kinds_go_by_the_rows(rt: HostRuntime) {
     for &(kind, shown, shapes, wanted) in &OWN_SHAPES {
         assert_eq!(rt; shown.len(), shapes.len());
         assert_eq!(rt;
-            own_row(kind, shown, shapes),
+            own_row(kind, shows(shown), shapes),
             wanted,
             "{kind:?} {shown:?} {shapes:?}"
         );
@@ -287,23 +293,95 @@ fn kinds_are_found_by_their_names(rt: HostRuntime) {
 }
 
 #[test]
-fn two_large_arguments_of_a_pair_are_unknown(rt: HostRuntime) {
-    let mut steps = Steps::new(Plain);
-    for &(shapes, wanted) in &PAIRS {
-        assert_eq!(rt;
-            PairKinds.shape(7, shapes, &mut steps),
-            wanted,
-            "{shapes:?}"
-        );
-    }
-    assert!(rt; PairKinds.knows(0) && !PairKinds.knows(1));
-    assert_eq!(rt; PairKinds.signature(7, 2, 1), Signature::Scalar);
-    assert_eq!(rt; PairKinds.signature(0, 2, 2), Signature::Error);
-}
-
-#[test]
 fn shapes_are_ordered(rt: HostRuntime) {
     for &(shape, other, wanted) in &ORDERED {
         assert_eq!(rt; shape.at_most(other), wanted, "{shape:?} {other:?}");
     }
+}
+
+/// A kind, numbers in millionths, and the number that a call over them is.
+static NUMBER_VALUES: [(&str, &[i64], i64); 9] = [
+    ("SUM", &[1000000, 2000000], 3000000),
+    ("MIN", &[2000000, 1000000], 1000000),
+    ("MAX", &[1000000, 2000000], 2000000),
+    ("COUNT", &[5000000, 5000000], 2000000),
+    ("COUNTA", &[5000000], 1000000),
+    ("ABS", &[-1000000], 1000000),
+    ("SIGN", &[-2000000], -1000000),
+    ("INT", &[-1500000], -2000000),
+    ("IF", &[1000000, 2000000, 3000000], 2000000),
+];
+
+/// The same for a truth value.
+static TRUTH_VALUES: [(&str, &[i64], bool); 4] = [
+    ("AND", &[1000000, 0], false),
+    ("OR", &[1000000, 0], true),
+    ("TRUE", &[], true),
+    ("FALSE", &[], false),
+];
+
+fn value_of(alloc: Global, id: u16, numbers: &[i64]) -> Result<ArrayNode, Memory> {
+    let mut values = Vec::new(alloc);
+    for &number in numbers {
+        values.push(Value::One(ArrayNode::Number(number)))?;
+    }
+    match CrateKinds.value(alloc, id, values.as_slice())? {
+        Value::One(element) => Ok(element),
+        _ => Ok(ArrayNode::Empty),
+    }
+}
+
+#[test]
+fn thirteen_kinds_have_values(rt: HostRuntime) -> Result<(), Fail> {
+    for &(name, numbers, wanted) in &NUMBER_VALUES {
+        let id = CrateKinds::by_name(name).expect(&rt, "a kind");
+        assert!(rt;
+            value_of(rt.alloc(), id, numbers)? == ArrayNode::Number(wanted),
+            "{name}"
+        );
+    }
+    for &(name, numbers, wanted) in &TRUTH_VALUES {
+        let id = CrateKinds::by_name(name).expect(&rt, "a kind");
+        assert!(rt;
+            value_of(rt.alloc(), id, numbers)? == ArrayNode::Boolean(wanted),
+            "{name}"
+        );
+    }
+    let id = CrateKinds::by_name("SIN").expect(&rt, "a kind");
+    assert!(rt; value_of(rt.alloc(), id, &[0])? == ArrayNode::Error(Error::NIMPL));
+    assert!(rt; value_of(rt.alloc(), 458, &[0])? == ArrayNode::Error(Error::NIMPL));
+    Ok(())
+}
+
+static UNITS: [(&str, UnitClass); 21] = [
+    ("SUM", UnitClass::FirstArgument),
+    ("AVERAGE", UnitClass::FirstArgument),
+    ("PMT", UnitClass::Currency),
+    ("FV", UnitClass::Currency),
+    ("NPER", UnitClass::Currency),
+    ("NPV", UnitClass::Currency),
+    ("SLN", UnitClass::Currency),
+    ("SYD", UnitClass::Currency),
+    ("DB", UnitClass::Currency),
+    ("DDB", UnitClass::Currency),
+    ("CUMIPMT", UnitClass::Currency),
+    ("CUMPRINC", UnitClass::Currency),
+    ("TBILLPRICE", UnitClass::Currency),
+    ("IRR", UnitClass::Percentage),
+    ("MIRR", UnitClass::Percentage),
+    ("TBILLEQ", UnitClass::PercentageTwo),
+    ("TBILLYIELD", UnitClass::PercentageTwo),
+    ("DATE", UnitClass::Date),
+    ("TODAY", UnitClass::Date),
+    ("NOW", UnitClass::DateTime),
+    ("MAX", UnitClass::NoUnit),
+];
+
+#[test]
+fn kinds_have_units_by_their_class(rt: HostRuntime) {
+    for &(name, class) in &UNITS {
+        let id = CrateKinds::by_name(name).expect(&rt, "a kind");
+        assert_eq!(rt; CrateKinds.unit_class(id), class, "{name}");
+    }
+    assert_eq!(rt; CrateKinds.unit_class(458), UnitClass::NoUnit);
 }

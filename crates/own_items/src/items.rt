@@ -1,7 +1,7 @@
 ghost use Rattle.std.specs.Prelude.{◌≡◌, [], ◌∷◌, ◌++◌, ◌≤◌, length, slice_get, slice_set, option_map, ◌↔◌, IsTrue, IsNone, OnOk, OnErr, IfErr};
 ghost use Rattle.std.specs.Option.{option_copied};
 
-use std::alloc::Global;
+use std::alloc::{AllocError, Global};
 use std::marker::Model;
 
 /// Some values in a row, which can grow. A contract sees the list of them, and neither the pointer, the room nor the allocator.
@@ -81,5 +81,16 @@ impl<T> Items<T> {
         ensures { result.now ≡ self.now }
     {
         self.held.as_slice()
+    }
+}
+
+impl<T: Drop> Items<T> {
+    /// Adds a value at the end. The error means want of memory: the value is dropped, and the list is as it was.
+    pub fn add(&mut self, item: T) -> Result<(), AllocError>
+        ensures done { OnOk result (self.new ≡ self.old ++ item ∷ []) }
+        ensures kept { OnErr result (self.new ≡ self.old) }
+    {
+        self.held.push(item)?;
+        Ok(())
     }
 }

@@ -4,8 +4,9 @@
 ghost use Rattle.own_kinds_example.specs.PriceTable.{price_table};
 ghost use Rattle.own_kinds_example.specs.PriceLaws.{price_table_is_lawful};
 
-use kind_table::{Asks, Kinds, Signature, StaticResult};
-use tree_core::Steps;
+use kind_table::{Asks, Kinds, Signature, StaticResult, UnitClass, Value};
+use std::alloc::Global;
+use tree_core::{ArrayNode, Error, Memory, Steps};
 
 /// The number of the one kind: the prices of a good, a range whose size is not known before it is asked for.
 pub const PRICES: u16 = 0;
@@ -28,6 +29,25 @@ impl Kinds for PriceKinds {
             Signature::Scalar
         } else {
             Signature::Error
+        }
+    }
+
+    fn value(&self, alloc: Global, id: u16, values: &[Value]) -> Result<Value, Memory> {
+        if id != PRICES {
+            return Ok(Value::One(ArrayNode::Error(Error::NIMPL)));
+        }
+        match values {
+            [Value::Missing] => Ok(Value::One(ArrayNode::Number(0))),
+            [prices] => prices.try_clone(alloc),
+            _ => Ok(Value::One(ArrayNode::Error(Error::ERROR))),
+        }
+    }
+
+    fn unit_class(&self, id: u16) -> UnitClass {
+        if id == PRICES {
+            UnitClass::Currency
+        } else {
+            UnitClass::NoUnit
         }
     }
 }

@@ -1,5 +1,1 @@
-pub mod Piece
-pub mod Values
-pub mod Formula
-pub mod Variant
 pub mod Answer

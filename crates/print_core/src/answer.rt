@@ -1,44 +1,88 @@
-ghost use Rattle.std.specs.Prelude.{◌≡◌, ◌++◌, ◌∷◌, OnOk, IfOk};
+ghost use Rattle.std.specs.Prelude.{◌≡◌, ◌∷◌, IfOk};
 ghost use Rattle.json.specs.Token.{key};
-ghost use Rattle.print_core.specs.Piece.{data_tokens};
-ghost use Rattle.print_core.specs.Formula.{node_data};
-ghost use Rattle.print_core.specs.Answer.{answer_data, answer_line};
+ghost use Rattle.value_json.specs.Piece.{Writes, data_tokens};
+ghost use Rattle.value_json.specs.Values.{rows_data};
+ghost use Rattle.formula_json.specs.Formula.{node_data};
+ghost use Rattle.print_core.specs.Answer.{answer_data, answer_line, shape_data};
 
-use crate::formula::write_node;
+use crate::shape::shape_text;
+use formula_json::write_node;
 use json::Writer;
+use kind_table::StaticResult;
+use rectangle_core::Grid;
 use std::alloc::Global;
 use tree_core::{Memory, Node};
+use value_json::write_grid;
 
-/// The line of an answer: an object with the keys `exported` and `imported`, in this order, as compact JSON in UTF-8,
-/// and a newline. The error means want of memory.
-pub fn answer_line(alloc: Global, exported: &Node, imported: &Node) -> Result<Vec<u8>, Memory>
-    ensures { IfOk result (λ line. line.items ≡ answer_line exported.now imported.now) }
+/// The answer to a formula. Its parts stand in the order in which they are written.
+#[derive(Debug, Drop)]
+pub struct Answer {
+    /// The imported formula with each `@` dropped that can go, so that its import is the imported formula again.
+    pub exported: Node,
+    /// The static shape of the formula as it is given.
+    pub given_shape: StaticResult,
+    /// The formula as import makes it, where one value is wanted of the whole.
+    pub imported: Node,
+    /// The static shape of the imported formula.
+    pub imported_shape: StaticResult,
+    /// The value of the imported formula: what the formula means in a sheet of single values.
+    pub legacy: Grid,
+    /// The value of the formula as it is given: what it means where many values may spill.
+    pub spilled: Grid,
+}
+
+/// The line of an answer: an object with a key for each part, in their order, as compact JSON in UTF-8, and a newline. The
+/// error means want of memory.
+pub fn answer_line(alloc: Global, answer: &Answer) -> Result<Vec<u8>, Memory>
+    ensures { IfOk result (λ line. line.items ≡ answer_line answer.now) }
 {
     let mut writer = Writer::new(Vec::new(alloc));
-    write_answer(&mut writer, exported, imported)?;
+    write_answer(alloc, &mut writer, answer)?;
     let mut line = writer.into_inner();
     line.push(b'\n')?;
     Ok(line)
 }
 
-fn write_answer(writer: &mut Writer, exported: &Node, imported: &Node) -> Result<(), Memory>
-    ensures before { writer.new.before ≡ writer.old.before }
-    ensures tokens { OnOk result (writer.new.tokens
-        ≡ writer.old.tokens ++ data_tokens (answer_data exported.now imported.now)) }
+fn write_answer(alloc: Global, writer: &mut Writer, answer: &Answer) -> Result<(), Memory>
+    ensures { Writes result writer.old writer.new (data_tokens (answer_data answer.now)) }
 {
     writer.begin_object()?;
-    write_member(writer, "exported", exported)?;
-    write_member(writer, "imported", imported)?;
+    write_formula(writer, "exported", &answer.exported)?;
+    write_shape(alloc, writer, "given_shape", answer.given_shape)?;
+    write_formula(writer, "imported", &answer.imported)?;
+    write_shape(alloc, writer, "imported_shape", answer.imported_shape)?;
+    write_value(writer, "legacy", &answer.legacy)?;
+    write_value(writer, "spilled", &answer.spilled)?;
     writer.end_object()?;
     Ok(())
 }
 
-fn write_member(writer: &mut Writer, name: &str, node: &Node) -> Result<(), Memory>
-    ensures before { writer.new.before ≡ writer.old.before }
-    ensures tokens { OnOk result (writer.new.tokens
-        ≡ writer.old.tokens ++ key name.now ∷ data_tokens (node_data node.now)) }
+fn write_formula(writer: &mut Writer, name: &str, node: &Node) -> Result<(), Memory>
+    ensures { Writes result writer.old writer.new (key name.now ∷ data_tokens (node_data node.now)) }
 {
     writer.key(name)?;
     write_node(writer, node)?;
+    Ok(())
+}
+
+fn write_shape(
+    alloc: Global,
+    writer: &mut Writer,
+    name: &str,
+    shape: StaticResult,
+) -> Result<(), Memory>
+    ensures { Writes result writer.old writer.new (key name.now ∷ data_tokens (shape_data shape)) }
+{
+    writer.key(name)?;
+    let text = shape_text(alloc, shape)?;
+    writer.string(text.as_str())?;
+    Ok(())
+}
+
+fn write_value(writer: &mut Writer, name: &str, value: &Grid) -> Result<(), Memory>
+    ensures { Writes result writer.old writer.new (key name.now ∷ data_tokens (rows_data value.now)) }
+{
+    writer.key(name)?;
+    write_grid(writer, value)?;
     Ok(())
 }

@@ -1,2 +1,2 @@
-pub mod Parsed
-pub mod Seen
+pub mod Blanks
+pub mod Filling

@@ -1,31 +1,39 @@
-ghost use Rattle.std.specs.Prelude.{◌≡◌, ◌≤◌, IfOk, Some, None, option_and_then, codes, is_some, map};
-ghost use Rattle.std.specs.List.{list_all};
-ghost use Rattle.serde_json.specs.Find.{as_str, get};
+ghost use Rattle.std.specs.Prelude.{◌≡◌, ◌<◌, ◌≤◌, IfOk, length};
 ghost use Rattle.serde_json.specs.View.{view};
 ghost use Rattle.tree_core.specs.Count.{size_of};
 ghost use Rattle.tree_core.specs.Formula.{tree_of};
-ghost use Rattle.formula_json.specs.Answer.{Finds, FindsBy, Gives, GivesBy};
-ghost use Rattle.request_core.specs.Request.{is_blank, data_of, texts_in, sheets_in, cells_in, cell_in, formula_in, request_in, request_of};
+ghost use Rattle.value_json.specs.Reading.{Gives, GivesBy};
+ghost use Rattle.request_core.specs.Request.{Reads, sheets_in, formula_in, asked_in, request_of};
 
-use formula_json::{
-    RequestError, check_length, check_members, member, read_array, read_i32, read_node, read_u32,
-};
+use crate::book::read_book;
+use crate::cell::read_position;
+use crate::text::parse;
+use book_core::MemoryBook;
+use formula_json::read_node;
 use serde_json::Value;
 use std::alloc::Global;
 use tree_core::Node;
+use value_core::{CellReferenceIndex, Texts};
+use value_json::{FormError, check_keys, member, read_texts};
+
+/// The keys of a request.
+pub static KEYS: [&str; 4] = ["sheets", "cells", "cell", "formula"];
 
 /// What is asked for.
 #[derive(Debug, Drop)]
 pub struct Request {
+    /// The book that the formula stands in.
+    pub book: MemoryBook,
+    /// The cell that it stands in.
+    pub cell: CellReferenceIndex,
     /// The formula to answer.
     pub formula: Node,
 }
 
-/// The request that the bytes of a JSON text are: an object with exactly the keys `sheets`, `cells`, `cell` and `formula`.
+/// The request that the bytes of a JSON text are.
 #[tactic(auto, unfolding(crate::specs::Request::request_of))]
-pub fn read_request(alloc: Global, bytes: &[u8]) -> Result<Request, RequestError>
-    ensures found { IfOk result (λ request. request_of bytes.now ≡ Some request) }
-    ensures not_of_form { result ≡ Err RequestError.NotOfForm → request_of bytes.now ≡ None }
+pub fn read_request(alloc: Global, bytes: &[u8]) -> Result<Request, FormError>
+    ensures found { Reads result (request_of bytes.now) }
     ensures most { IfOk result (λ request. size_of (tree_of request.formula) ≤ 16777216) }
 {
     let value = parse(alloc, bytes)?;
@@ -33,109 +41,47 @@ pub fn read_request(alloc: Global, bytes: &[u8]) -> Result<Request, RequestError
     Ok(request)
 }
 
-fn parse(alloc: Global, bytes: &[u8]) -> Result<Value, RequestError>
-    ensures { GivesBy view result (data_of bytes.now) }
-{
-    // The reader would hold as much again, and walk the blanks twice.
-    if are_blank(bytes) {
-        return Err(RequestError::NotOfForm);
-    }
-    match Value::from_slice(alloc, bytes) {
-        Ok(value) => Ok(value),
-        Err(error) => {
-            if error.is_memory() {
-                Err(RequestError::Memory)
-            } else {
-                Err(RequestError::NotOfForm)
-            }
-        }
-    }
-}
-
-fn are_blank(bytes: &[u8]) -> bool
-    ensures { result ≡ list_all is_blank bytes.now }
-{
-    bytes.iter().all(|byte| is_blank(*byte))
-}
-
-fn is_blank(byte: u8) -> bool
-    ensures { result ≡ is_blank byte }
-{
-    byte == b' ' || byte == b'\t' || byte == b'\n' || byte == b'\r'
-}
-
-#[tactic(auto, unfolding(crate::specs::Request::request_in))]
-fn read_value(alloc: Global, value: &Value) -> Result<Request, RequestError>
-    ensures found { Gives result (request_in (view value.now)) }
+#[tactic(auto, unfolding(crate::specs::Request::asked_in))]
+fn read_value(alloc: Global, value: &Value) -> Result<Request, FormError>
+    ensures found { Reads result (asked_in (view value.now)) }
     ensures most { IfOk result (λ request. size_of (tree_of request.formula) ≤ 16777216) }
 {
-    check_members(value, 4)?;
-    check_sheets(member(value, "sheets")?)?;
-    check_cells(member(value, "cells")?)?;
-    check_cell(member(value, "cell")?)?;
+    check_keys(value, &KEYS)?;
+    let sheets = read_sheets(alloc, member(value, "sheets")?)?;
+    let book = read_book(alloc, sheets, member(value, "cells")?)?;
+    let cell = read_position(member(value, "cell")?)?;
     let formula = read_formula(alloc, member(value, "formula")?)?;
-    Ok(Request { formula })
+    Ok(Request {
+        book,
+        cell,
+        formula,
+    })
 }
 
+/// At most 2^32 - 1 texts.
+#[tactic(auto, unfolding(crate::specs::Request::sheets_in))]
+fn read_sheets(alloc: Global, value: &Value) -> Result<Texts, FormError>
+    ensures found { Gives result (sheets_in (view value.now)) }
+    ensures few { IfOk result (λ sheets. length sheets < 4294967296) }
+{
+    let sheets = read_texts(alloc, value)?;
+    if sheets.len() <= u32::MAX as usize {
+        Ok(sheets)
+    } else {
+        Err(FormError::NotOfForm)
+    }
+}
+
+/// A formula of at most 16777216 nodes.
 #[tactic(auto, unfolding(crate::specs::Request::formula_in))]
-fn read_formula(alloc: Global, value: &Value) -> Result<Node, RequestError>
-    ensures found { Gives result (formula_in (view value.now)) }
+fn read_formula(alloc: Global, value: &Value) -> Result<Node, FormError>
+    ensures found { GivesBy tree_of result (formula_in (view value.now)) }
     ensures most { IfOk result (λ node. size_of (tree_of node) ≤ 16777216) }
 {
     let node = read_node(alloc, value)?;
     if node.has_at_most(16777216) {
         Ok(node)
     } else {
-        Err(RequestError::NotOfForm)
+        Err(FormError::NotOfForm)
     }
-}
-
-#[tactic(auto, unfolding(crate::specs::Request::sheets_in))]
-fn check_sheets(value: &Value) -> Result<(), RequestError>
-    ensures { Finds result (sheets_in (view value.now)) }
-{
-    let items = read_array(value)?;
-    check_texts(items)?;
-    if items.len() <= u32::MAX as usize {
-        Ok(())
-    } else {
-        Err(RequestError::NotOfForm)
-    }
-}
-
-#[tactic(auto, using(crate::proofs::Seen::texts))]
-fn check_texts(items: &[Value]) -> Result<(), RequestError>
-    ensures { Finds result (texts_in (map view items.now)) }
-{
-    if are_texts(items) {
-        Ok(())
-    } else {
-        Err(RequestError::NotOfForm)
-    }
-}
-
-fn are_texts(items: &[Value]) -> bool
-    ensures { result ≡ list_all (λ item. is_some (as_str (view item))) items.now }
-{
-    items.iter().all(|item| item.is_string())
-}
-
-#[tactic(auto, unfolding(crate::specs::Request::cells_in))]
-fn check_cells(value: &Value) -> Result<(), RequestError>
-    ensures { Finds result (cells_in (view value.now)) }
-{
-    let items = read_array(value)?;
-    check_length(items, 0)
-}
-
-#[tactic(auto, unfolding(crate::specs::Request::cell_in))]
-fn check_cell(value: &Value) -> Result<(), RequestError>
-    ensures { Finds result (cell_in (view value.now)) }
-{
-    let items = read_array(value)?;
-    check_length(items, 3)?;
-    read_u32(items, 0)?;
-    read_i32(items, 1)?;
-    read_i32(items, 2)?;
-    Ok(())
 }

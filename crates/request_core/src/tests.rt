@@ -1,146 +1,122 @@
-use crate::{RequestError, read_request};
+use crate::{FormError, Request, read_request};
+use book_core::{Book, Reads};
 use std::alloc::{AllocError, Global};
 use std::test::Fail;
+use tree_core::{Node, Plain, Steps};
+use value_core::{ArrayNode, CellReferenceIndex};
 
-fn with_formula(alloc: Global, formula: &str) -> Result<String, AllocError> {
-    format!(in alloc; "{{\"sheets\":[\"S\"],\"cells\":[],\"cell\":[0,-1,2],\"formula\":{formula}}}")
+fn with_cells(alloc: Global, cells: &str) -> Result<String, AllocError> {
+    format!(in alloc;
+        "{{\"sheets\":[\"S\",\"T\"],\"cells\":[{cells}],\"cell\":[3,-1,2],\"formula\":[\"num\",7]}}"
+    )
 }
 
-fn nested(alloc: Global, depth: usize) -> Result<String, AllocError> {
-    let mut formula = String::new(alloc);
-    for _ in 0..depth {
-        formula.push_str("[\"neg\",")?;
-    }
-    formula.push_str("[\"num\",1]")?;
-    for _ in 0..depth {
-        formula.push_str("]")?;
-    }
-    with_formula(alloc, formula.as_str())
+fn read(alloc: Global, text: &str) -> Result<Request, FormError> {
+    read_request(alloc, text.as_bytes())
 }
-
-/// Formulas, one for each tag, and the nodes that they are.
-static EACH_TAG: [(&str, &str); 9] = [
-    (
-        r#"["num",-9223372036854775808]"#,
-        "NumberKind(-9223372036854775808)",
-    ),
-    (
-        r#" [ "n\u0075m" , 9223372036854775807 ] "#,
-        "NumberKind(9223372036854775807)",
-    ),
-    (
-        r#"["ref",4294967295,"A",true,false,2147483647,-2147483648]"#,
-        "ReferenceKind { sheet_name: Some(Text { string: \"A\" }), sheet_index: 4294967295, absolute_row: true, absolute_column: false, row: 2147483647, column: -2147483648 }",
-    ),
-    (
-        r#"["range",0,null,true,false,1,2,false,true,3,4]"#,
-        "RangeKind { sheet_name: None, sheet_index: 0, absolute_row1: true, absolute_column1: false, row1: 1, column1: 2, absolute_row2: false, absolute_column2: true, row2: 3, column2: 4 }",
-    ),
-    (
-        r#"["add",["num",1],["num",2]]"#,
-        "OpSumKind { kind: Add, left: Boxed { held: NumberKind(1) }, right: Boxed { held: NumberKind(2) } }",
-    ),
-    (
-        r#"["sub",["num",1],["num",2]]"#,
-        "OpSumKind { kind: Minus, left: Boxed { held: NumberKind(1) }, right: Boxed { held: NumberKind(2) } }",
-    ),
-    (
-        r#"["neg",["num",1]]"#,
-        "UnaryKind { kind: Minus, right: Boxed { held: NumberKind(1) } }",
-    ),
-    (
-        r#"["percent",["num",1]]"#,
-        "UnaryKind { kind: Percentage, right: Boxed { held: NumberKind(1) } }",
-    ),
-    (
-        r#"["at",true,["at",false,["num",1]]]"#,
-        "ImplicitIntersection { automatic: true, child: Boxed { held: ImplicitIntersection { automatic: false, child: Boxed { held: NumberKind(1) } } } }",
-    ),
-];
 
 #[test]
-fn each_tag_is_read(rt: HostRuntime) -> Result<(), Fail> {
+fn a_request_is_read_whole(rt: HostRuntime) -> Result<(), Fail> {
     let alloc = rt.alloc();
-    for &(formula, expected) in &EACH_TAG {
-        let text = with_formula(alloc, formula)?;
-        let request = read_request(alloc, text.as_bytes())?;
-        let printed = format!(in alloc; "{:?}", request.formula)?;
-        assert_eq!(rt; printed.as_str(), expected);
+    let cells =
+        r##"[0,1,1,1500000],[1,1048576,16384,null,"0%"],[0,2,1,true,null,"=A1"],[0,1,2,{"error":"#N/A"},null,null],[1,1,1,"x"]"##;
+    let text = with_cells(alloc, cells)?;
+    let request = read(alloc, text.as_str())?;
+    let cell = CellReferenceIndex {
+        sheet: 3,
+        row: -1,
+        column: 2,
+    };
+    assert_eq!(rt; request.cell, cell);
+    assert_eq!(rt; request.formula, Node::NumberKind(7));
+    for (sheet, row, column, holds) in [
+        (0, 1, 1, true),
+        (1, 1048576, 16384, true),
+        (0, 2, 1, true),
+        (0, 1, 2, true),
+        (1, 1, 1, true),
+        (1, 1, 2, false),
+    ] {
+        let cell = CellReferenceIndex { sheet, row, column };
+        assert_eq!(rt; request.book.holds(cell), holds);
     }
+    let corner = CellReferenceIndex {
+        sheet: 1,
+        row: 1048576,
+        column: 16384,
+    };
+    assert_eq!(rt; request.book.num_fmt(corner), Some("0%"));
+    let below = CellReferenceIndex {
+        sheet: 0,
+        row: 2,
+        column: 1,
+    };
+    assert_eq!(rt; request.book.formula(below), Some("=A1"));
+    let mut steps = Steps::new(Plain);
+    let value = request.book.value(below, &mut steps);
+    assert!(rt; value.is(&ArrayNode::Boolean(true)));
     Ok(())
 }
 
-/// Texts that are no formula.
-static OTHER_FORMULAS: [&str; 32] = [
-    "null",
+/// What is no list of cells of a book with two sheets.
+static OTHER_CELLS: [&str; 18] = [
     "1",
-    "{}",
+    "null",
     "[]",
-    r#"["nun",1]"#,
-    r#"["NUM",1]"#,
-    r#"[1,"num"]"#,
-    r#"["num"]"#,
-    r#"["num",1,1]"#,
-    r#"["num",1.0]"#,
-    r#"["num",1e3]"#,
-    r#"["num",-0]"#,
-    r#"["num","1"]"#,
-    r#"["num",9223372036854775808]"#,
-    r#"["num",-9223372036854775809]"#,
-    r#"["ref",4294967296,null,true,true,0,0]"#,
-    r#"["ref",-1,null,true,true,0,0]"#,
-    r#"["ref",0,7,true,true,0,0]"#,
-    r#"["ref",0,null,1,true,0,0]"#,
-    r#"["ref",0,null,true,0,0,0]"#,
-    r#"["ref",0,null,true,true,2147483648,0]"#,
-    r#"["ref",0,null,true,true,0,-2147483649]"#,
-    r#"["ref",0,null,true,true,0]"#,
-    r#"["ref",0,null,true,true,0,0,0]"#,
-    r#"["range",0,null,true,true,0,0,true,true,0]"#,
-    r#"["range",0,null,true,true,0,0,true,null,0,0]"#,
-    r#"["add",["num",1]]"#,
-    r#"["add",["num",1],["num",2],["num",3]]"#,
-    r#"["sub",["num",1],2]"#,
-    r#"["neg",["nun",1]]"#,
-    r#"["at",["num",1],true]"#,
-    r#"["at",true]"#,
+    "[0,1,1]",
+    "[0,1,1,1.5]",
+    "[0,1,1,[]]",
+    r##"[0,1,1,{"error":"N/A"}]"##,
+    r##"[0,1,1,{"error":"#N/A","more":1}]"##,
+    "[0,1,1,null,7]",
+    "[0,1,1,null,null,7]",
+    "[0,1,1,null,null,null,null]",
+    "[2,1,1,null]",
+    "[-1,1,1,null]",
+    "[0,0,1,null]",
+    "[0,1048577,1,null]",
+    "[0,1,0,null]",
+    "[0,1,16385,null]",
+    "[0,1,1,null],[1,1,1,2],[0,1,1,3]",
 ];
 
 #[test]
-fn other_formulas_are_refused(rt: HostRuntime) -> Result<(), Fail> {
+fn other_cells_are_refused(rt: HostRuntime) -> Result<(), Fail> {
     let alloc = rt.alloc();
-    for &formula in &OTHER_FORMULAS {
-        let text = with_formula(alloc, formula)?;
-        let refused = read_request(alloc, text.as_bytes()).err();
-        assert_eq!(rt; refused, Some(RequestError::NotOfForm), "{formula}");
+    for &cells in &OTHER_CELLS {
+        let text = with_cells(alloc, cells)?;
+        let refused = read(alloc, text.as_str()).err();
+        assert_eq!(rt; refused, Some(FormError::NotOfForm), "{cells}");
     }
     Ok(())
 }
+
+/// Texts that are no request.
+static OTHER_TEXTS: [&str; 17] = [
+    "",
+    " \t\r\n ",
+    "null",
+    "[]",
+    "{",
+    r#"{"sheets":[],"cells":[],"cell":[0,1,1],"formula":["num",1]} x"#,
+    r#"{"sheets":[],"cells":[],"cell":[0,1,1]}"#,
+    r#"{"sheets":[],"cells":[],"cell":[0,1,1],"formulas":["num",1]}"#,
+    r#"{"sheets":[],"cells":[],"cell":[0,1,1],"formula":["num",1],"more":1}"#,
+    r#"{"sheets":"S","cells":[],"cell":[0,1,1],"formula":["num",1]}"#,
+    r#"{"sheets":["S",1],"cells":[],"cell":[0,1,1],"formula":["num",1]}"#,
+    r#"{"sheets":[],"cells":{},"cell":[0,1,1],"formula":["num",1]}"#,
+    r#"{"sheets":[],"cells":[],"cell":[0,1],"formula":["num",1]}"#,
+    r#"{"sheets":[],"cells":[],"cell":[-1,1,1],"formula":["num",1]}"#,
+    r#"{"sheets":[],"cells":[],"cell":[0,2147483648,1],"formula":["num",1]}"#,
+    r#"{"sheets":[],"cells":[],"cell":[0,1,null],"formula":["num",1]}"#,
+    r#"{"sheets":[],"cells":[],"cell":[0,1,1],"formula":["num",1],"formula":7}"#,
+];
 
 #[test]
 fn other_texts_are_refused(rt: HostRuntime) {
-    for text in [
-        "",
-        " \t\r\n ",
-        "null",
-        "[]",
-        "{",
-        r#"{"sheets":[],"cells":[],"cell":[0,1,1],"formula":["num",1]} x"#,
-        r#"{"sheets":[],"cells":[],"cell":[0,1,1]}"#,
-        r#"{"sheets":[],"cells":[],"cell":[0,1,1],"formulas":["num",1]}"#,
-        r#"{"sheets":[],"cells":[],"cell":[0,1,1],"formula":["num",1],"more":1}"#,
-        r#"{"sheets":"S","cells":[],"cell":[0,1,1],"formula":["num",1]}"#,
-        r#"{"sheets":["S",1],"cells":[],"cell":[0,1,1],"formula":["num",1]}"#,
-        r#"{"sheets":[],"cells":[1],"cell":[0,1,1],"formula":["num",1]}"#,
-        r#"{"sheets":[],"cells":{},"cell":[0,1,1],"formula":["num",1]}"#,
-        r#"{"sheets":[],"cells":[],"cell":[0,1],"formula":["num",1]}"#,
-        r#"{"sheets":[],"cells":[],"cell":[-1,1,1],"formula":["num",1]}"#,
-        r#"{"sheets":[],"cells":[],"cell":[0,2147483648,1],"formula":["num",1]}"#,
-        r#"{"sheets":[],"cells":[],"cell":[0,1,null],"formula":["num",1]}"#,
-        r#"{"sheets":[],"cells":[],"cell":[0,1,1],"formula":["num",1],"formula":7}"#,
-    ] {
-        let refused = read_request(rt.alloc(), text.as_bytes()).err();
-        assert_eq!(rt; refused, Some(RequestError::NotOfForm), "{text}");
+    for &text in &OTHER_TEXTS {
+        let refused = read(rt.alloc(), text).err();
+        assert_eq!(rt; refused, Some(FormError::NotOfForm), "{text}");
     }
 }
 
@@ -148,25 +124,37 @@ fn other_texts_are_refused(rt: HostRuntime) {
 fn bytes_that_are_no_text_are_refused(rt: HostRuntime) {
     let bytes = b"{\"sheets\":[\"\xff\"],\"cells\":[],\"cell\":[0,1,1],\"formula\":[\"num\",1]}";
     let refused = read_request(rt.alloc(), bytes).err();
-    assert_eq!(rt; refused, Some(RequestError::NotOfForm));
+    assert_eq!(rt; refused, Some(FormError::NotOfForm));
 }
 
 #[test]
 fn the_last_of_equal_keys_counts(rt: HostRuntime) -> Result<(), Fail> {
-    let alloc = rt.alloc();
     let text = r#"{"formula":7,"sheets":[],"cells":[],"cell":[0,1,1],"formula":["num",1]}"#;
-    let request = read_request(alloc, text.as_bytes())?;
-    let printed = format!(in alloc; "{request:?}")?;
-    assert_eq!(rt; printed.as_str(), "Request { formula: NumberKind(1) }");
+    let request = read(rt.alloc(), text)?;
+    assert_eq!(rt; request.formula, Node::NumberKind(1));
     Ok(())
+}
+
+fn nested(alloc: Global, depth: usize) -> Result<String, AllocError> {
+    let mut text = String::new(alloc);
+    text.push_str(r#"{"sheets":[],"cells":[],"cell":[0,1,1],"formula":"#)?;
+    for _ in 0..depth {
+        text.push_str("[\"neg\",")?;
+    }
+    text.push_str("[\"num\",1]")?;
+    for _ in 0..depth {
+        text.push_str("]")?;
+    }
+    text.push_str("}")?;
+    Ok(text)
 }
 
 #[test]
 fn a_request_nests_127_deep(rt: HostRuntime) -> Result<(), Fail> {
     let alloc = rt.alloc();
-    for (depth, refused) in [(125, None), (126, Some(RequestError::NotOfForm))] {
+    for (depth, refused) in [(125, None), (126, Some(FormError::NotOfForm))] {
         let text = nested(alloc, depth)?;
-        let answer = read_request(alloc, text.as_bytes()).err();
+        let answer = read(alloc, text.as_str()).err();
         assert_eq!(rt; answer, refused, "{depth} operators");
     }
     Ok(())

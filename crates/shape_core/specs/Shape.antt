@@ -5,19 +5,18 @@
 --   dimension      a dimension of an array literal, which is at least 1 and at most 2147483647
 --   literal_shape  an array literal: its rows, and the elements of its first row
 --   leaf_shape     a bare node without children
---   whole_shape    a node that is taken as a whole, or stands under an `@`
---   range_node     the shape of a bare range; none for any other node
 --   shown, shown_all  what an argument shows of itself, and each of some arguments
 --   passed         an operator over the shapes of its sides
 --   call_shape     a call over what its arguments show and over their shapes: by the rows of the own kinds, and by the table
 --   node_shape     a bare node over what its children show and over their shapes
 --   shape, shapes  a formula, and each of some formulas. What stands under an `@` is one value
-use Rattle.std.specs.Prelude.{ℕ, ℤ, pos, ◌+ℤ◌, ◌-ℤ◌, int_le, Bool, true, false, ◌&&◌, not, if◌then◌else◌, List, [], ◌∷◌, length, Option, Some, None, min, max}
+use Rattle.std.specs.Prelude.{ℕ, ℤ, pos, ◌+ℤ◌, ◌-ℤ◌, int_le, Bool, true, false, ◌&&◌, not, if◌then◌else◌, List, [], ◌∷◌, length, min, max}
 use Rattle.std.specs.Int.{int_max, int_min}
 use Rattle.call_core.specs.declared.function.Function.{Function}
 use Rattle.call_core.specs.declared.function.Function.TheVariants.{Other}
-use Rattle.tree_core.specs.declared.array.ArrayNode.{ArrayNode}
-use Rattle.tree_core.specs.Label.{Corner, Leaf, number, reference, range, array, defined_name, table_name, Label, leaf, passing, spill, closed, call}
+use Rattle.value_core.specs.declared.array.ArrayNode.{ArrayNode}
+use Rattle.tree_core.specs.declared.corner.Corner.{Corner}
+use Rattle.tree_core.specs.Label.{Leaf, number, reference, range, array, defined_name, table_name, Label, leaf, passing, spill, closed, call}
 use Rattle.tree_core.specs.Tree.{Tree, tree, Trees, none, more}
 use Rattle.kind_table.specs.declared.shown.Shown.{Shown}
 use Rattle.kind_table.specs.declared.shown.Shown.TheVariants.{Range as BareRange, Reference as BareReference, One as BareOne, Nothing}
@@ -58,15 +57,6 @@ leaf_shape (array rows) = literal_shape rows
 leaf_shape (defined_name name scope text) = Unknown
 leaf_shape (table_name name) = Unknown
 leaf_shape other = Scalar
-
-abbrev pub whole_shape : Tree → StaticResult
-whole_shape (tree (flag ∷ run) label ts) = Scalar
-whole_shape (tree [] (leaf l) ts) = leaf_shape l
-whole_shape (tree [] label ts) = Unknown
-
-abbrev pub range_node : Tree → Option StaticResult
-range_node (tree [] (leaf (range sheet left right)) ts) = Some (range_shape left right)
-range_node t = None
 
 abbrev pub shown : Tree → Shown
 shown (tree [] (leaf (range sheet left right)) ts) = BareRange

@@ -4,16 +4,15 @@ ghost use Rattle.tree_core.specs.Formula.{tree_of};
 ghost use Rattle.tree_core.specs.Tree.{forest};
 ghost use Rattle.shape_core.specs.Shape.{call_shape, shape, shapes, shown_all};
 
-use crate::leaf::whole_shape;
+use crate::leaf::leaf_shape;
 use crate::own::own_shape;
 use kind_table::{Asks, StaticResult};
 use std::alloc::Global;
-use tree_class::Class;
-use tree_core::{Function, Memory, Node, Nodes, Steps};
+use tree_core::{Function, Memory, Node, Nodes, Steps, View};
 
 /// The shape of a formula by a table of kinds, which is asked at most once for each call.
 #[cycle(analysis)]
-#[tactic(auto, using(crate::proofs::Shapes::shaped))]
+#[tactic(auto, using(crate::proofs::Forest::shaped))]
 pub fn run_static_analysis_on_node<K: Asks<L>, L>(
     alloc: Global,
     node: &Node,
@@ -23,23 +22,24 @@ pub fn run_static_analysis_on_node<K: Asks<L>, L>(
     ensures value { IfOk result (λ found. found ≡ shape (K.table kinds.now) (tree_of node.now)) }
     ensures counted { steps.new ≤ steps.old + calls_of (tree_of node.now) }
 {
-    match Class::of(node) {
-        Class::Whole => Ok(whole_shape(node)),
-        Class::Unary { right, .. } => {
+    match node.view() {
+        View::Leaf(leaf) => Ok(leaf_shape(leaf)),
+        View::Closed(_) => Ok(StaticResult::Unknown),
+        View::Unary { right, .. } => {
             let found = run_static_analysis_on_node(alloc, right, kinds, steps)?;
             Ok(found)
         }
-        Class::Binary { left, right, .. } => {
+        View::Binary { left, right, .. } => {
             let left = run_static_analysis_on_node(alloc, left, kinds, steps)?;
             let right = run_static_analysis_on_node(alloc, right, kinds, steps)?;
             Ok(left.combined(right))
         }
-        Class::Spill { .. } => Ok(StaticResult::Unknown),
-        Class::Call { kind, args } => {
+        View::Spill { .. } => Ok(StaticResult::Unknown),
+        View::Call { kind, args } => {
             let found = shapes_of(alloc, args, kinds, steps)?;
             Ok(call_shape(kind, args, found.as_slice(), kinds, steps))
         }
-        Class::Intersection { .. } => Ok(StaticResult::Scalar),
+        View::Intersection { .. } => Ok(StaticResult::Scalar),
     }
 }
 

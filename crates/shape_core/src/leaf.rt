@@ -1,73 +1,33 @@
 ghost use Rattle.std.specs.Prelude.{◌≡◌, pos, ◌+ℤ◌, ◌-ℤ◌, ◌≤ℤ◌};
 ghost use Rattle.std.specs.Int.{int_max, int_min};
-ghost use Rattle.kind_table.specs.declared.static_result.StaticResult.TheVariants.{Range};
-ghost use Rattle.tree_core.specs.Formula.{tree_of};
-ghost use Rattle.tree_class.specs.Class.{IsWhole};
-ghost use Rattle.shape_core.specs.Shape.{extent, dimension, literal_shape, range_node, whole_shape};
+ghost use Rattle.tree_core.specs.View.{leaf_in};
+ghost use Rattle.shape_core.specs.Shape.{extent, dimension, leaf_shape, literal_shape, range_shape};
 
 use kind_table::StaticResult;
-use tree_core::{Node, Rows};
+use tree_core::{Corner, Leaf, Rows};
 
 const LAST_ROW: i32 = 1048576;
 
 const LAST_COLUMN: i32 = 16384;
 
-/// Where one end of a range lies: whether its row and its column are absolute, its row and its column.
-type Corner = (bool, bool, i32, i32);
-
-/// The shape of a range; `None` exactly for any other node.
-#[tactic(auto, using(tree_class::proofs::Trees::trees))]
-pub fn range_shape(node: &Node) -> Option<StaticResult>
-    ensures { result ≡ range_node (tree_of node.now) }
+/// The shape of a bare node without children.
+pub fn leaf_shape(leaf: Leaf) -> StaticResult
+    ensures { result ≡ leaf_shape (leaf_in leaf.entry) }
 {
-    match node {
-        Node::RangeKind {
-            absolute_row1,
-            absolute_column1,
-            row1,
-            column1,
-            absolute_row2,
-            absolute_column2,
-            row2,
-            column2,
-            ..
-        } => Some(between(
-            (*absolute_row1, *absolute_column1, *row1, *column1),
-            (*absolute_row2, *absolute_column2, *row2, *column2),
-        )),
-        _ => None,
-    }
-}
-
-/// The shape of a node that is taken as a whole, as one without children is.
-#[tactic(auto, using(tree_class::proofs::Trees::trees))]
-pub fn whole_shape(node: &Node) -> StaticResult
-    requires { IsWhole (tree_of node.now) }
-    ensures { result ≡ whole_shape (tree_of node.now) }
-{
-    match node {
-        Node::BooleanKind(_)
-        | Node::NumberKind(_)
-        | Node::StringKind(_)
-        | Node::ErrorKind(_)
-        | Node::EmptyArgKind
-        | Node::ReferenceKind { .. }
-        | Node::WrongReferenceKind { .. }
-        | Node::WrongRangeKind { .. }
-        | Node::NamedVariableKind { .. }
-        | Node::ParseErrorKind { .. } => StaticResult::Scalar,
-        Node::RangeKind { .. } => match range_shape(node) {
-            Some(shape) => shape,
-            None => unreachable!(),
-        },
-        Node::ArrayKind(rows) => literal_shape(rows),
-        Node::DefinedNameKind(_)
-        | Node::TableNameKind(_)
-        | Node::OpRangeKind { .. }
-        | Node::NamedFunctionKind { .. }
-        | Node::LambdaDefKind { .. }
-        | Node::LambdaCallKind { .. } => StaticResult::Unknown,
-        _ => unreachable!(),
+    match leaf {
+        Leaf::Range { left, right, .. } => range_shape(left, right),
+        Leaf::Array(rows) => literal_shape(rows),
+        Leaf::DefinedName(_) | Leaf::TableName(_) => StaticResult::Unknown,
+        Leaf::Boolean(_)
+        | Leaf::Number(_)
+        | Leaf::Text(_)
+        | Leaf::Error(_)
+        | Leaf::Empty
+        | Leaf::Reference { .. }
+        | Leaf::WrongReference { .. }
+        | Leaf::WrongRange { .. }
+        | Leaf::Variable { .. }
+        | Leaf::ParseError { .. } => StaticResult::Scalar,
     }
 }
 
@@ -81,12 +41,25 @@ fn literal_shape(rows: &Rows) -> StaticResult
     StaticResult::Array(dimension(rows.len()), dimension(columns))
 }
 
-fn between(left: Corner, right: Corner) -> StaticResult
-    ensures { result ≡ Range (extent left.0 right.0 left.2 right.2 (pos 1048576)) (extent left.1 right.1 left.3 right.3 (pos 16384)) }
+/// The shape of a range between two ends.
+pub fn range_shape(left: Corner, right: Corner) -> StaticResult
+    ensures { result ≡ range_shape left right }
 {
     StaticResult::Range(
-        extent(left.0, right.0, left.2, right.2, LAST_ROW),
-        extent(left.1, right.1, left.3, right.3, LAST_COLUMN),
+        extent(
+            left.absolute_row,
+            right.absolute_row,
+            left.row,
+            right.row,
+            LAST_ROW,
+        ),
+        extent(
+            left.absolute_column,
+            right.absolute_column,
+            left.column,
+            right.column,
+            LAST_COLUMN,
+        ),
     )
 }
 

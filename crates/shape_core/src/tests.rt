@@ -1,19 +1,51 @@
 use super::*;
 use StaticResult::{Array, Range, Scalar, Unknown};
+use formula_words::{cell, formula, range};
 use kind_table::{CrateKinds, StaticResult};
-use own_items::Boxed;
 use std::alloc::Global;
 use std::test::Fail;
-use tree_core::{ArrayNode, Function, Memory, Node, Nodes, OpSum, Plain, Rows, Steps};
+use tree_core::{ArrayNode, Corner, Function, Memory, Node, Nodes, Plain, Rows, Steps};
 
-type Corner = (bool, bool, i32, i32);
+/// Where an end of a range lies: whether its row and its column are absolute, the row and the column.
+type End = (bool, bool, i32, i32);
 
-const IN_COLUMN: (Corner, Corner) = ((false, false, -2, -2), (false, false, 2, -2));
+const IN_COLUMN: (End, End) = ((false, false, -2, -2), (false, false, 2, -2));
 
-const IN_ROW: (Corner, Corner) = ((true, true, 1, 5), (true, true, 1, 1));
+const IN_ROW: (End, End) = ((true, true, 1, 5), (true, true, 1, 1));
+
+/// Formulas in words, and the shape of each.
+static WORDS: [(&str, StaticResult); 3] = [
+    ("A1:A5 @", Scalar),
+    ("A1:A5 1 + SIN/1", Array(5, 1)),
+    ("A1 A1 :", Unknown),
+];
+
+/// A formula in words, and the shapes of its parts by number.
+static PARTS: [(&str, &[StaticResult]); 4] = [
+    ("1", &[Scalar]),
+    (
+        "A1:A3 @ @ 1 CHOOSE/2",
+        &[Scalar, Scalar, Scalar, Range(3, 1), Scalar],
+    ),
+    (
+        "A1:A3 B1:B3 : # 1 +",
+        &[Unknown, Unknown, Unknown, Range(3, 1), Range(3, 1), Scalar],
+    ),
+    (
+        "A1:A3 SIN/1 lambda A1:A5 % apply/1",
+        &[
+            Unknown,
+            Unknown,
+            Array(3, 1),
+            Range(3, 1),
+            Range(5, 1),
+            Range(5, 1),
+        ],
+    ),
+];
 
 /// The ends of a range, and its shape.
-static RANGES: [((Corner, Corner), StaticResult); 6] = [
+static RANGES: [((End, End), StaticResult); 6] = [
     (IN_COLUMN, Range(5, 1)),
     (IN_ROW, Range(1, 5)),
     (((true, true, 9, 3), (true, true, 1, 4)), Range(9, 2)),
@@ -66,59 +98,31 @@ static CALLS: [(Function, First, &[i64], StaticResult); 12] = [
     ),
 ];
 
-fn range((left, right): (Corner, Corner)) -> Node {
-    Node::RangeKind {
-        sheet_name: None,
-        sheet_index: 0,
-        absolute_row1: left.0,
-        absolute_column1: left.1,
-        row1: left.2,
-        column1: left.3,
-        absolute_row2: right.0,
-        absolute_column2: right.1,
-        row2: right.2,
-        column2: right.3,
-    }
+fn corner(end: End) -> Corner {
+    Corner::new(end.0, end.1, end.2, end.3)
 }
 
-fn cell() -> Node {
-    Node::ReferenceKind {
-        sheet_name: None,
-        sheet_index: 0,
-        absolute_row: true,
-        absolute_column: true,
-        row: 1,
-        column: 1,
-    }
-}
-
-fn at(alloc: Global, child: Node) -> Result<Node, Memory> {
-    Ok(Node::ImplicitIntersection {
-        automatic: false,
-        child: Boxed::new(alloc, child)?,
-    })
+fn range_between((left, right): (End, End)) -> Node {
+    range(corner(left), corner(right))
 }
 
 fn argument(alloc: Global, which: First) -> Result<Node, Memory> {
+    let first = cell(Corner::new(true, true, 1, 1));
     match which {
-        First::Row => Ok(range(IN_ROW)),
-        First::Column => Ok(range(IN_COLUMN)),
-        First::Cell => Ok(cell()),
-        First::AtCell => at(alloc, cell()),
+        First::Row => Ok(range_between(IN_ROW)),
+        First::Column => Ok(range_between(IN_COLUMN)),
+        First::Cell => Ok(first),
+        First::AtCell => Node::intersection(alloc, false, first),
     }
 }
 
 fn call(alloc: Global, kind: Function, first: Node, numbers: &[i64]) -> Result<Node, Memory> {
     let mut args = Nodes::new(alloc);
-    if args.push(first).is_err() {
-        return Err(Memory);
-    }
+    args.add(first)?;
     for &number in numbers {
-        if args.push(Node::NumberKind(number)).is_err() {
-            return Err(Memory);
-        }
+        args.add(Node::NumberKind(number))?;
     }
-    Ok(Node::FunctionKind { kind, args })
+    Ok(Node::call(kind, args))
 }
 
 fn literal(alloc: Global, rows: &[&[i64]]) -> Result<Node, Memory> {
@@ -140,28 +144,17 @@ fn shape_of(alloc: Global, node: &Node) -> Result<StaticResult, Memory> {
     run_static_analysis_on_node(alloc, node, &CrateKinds, &mut steps)
 }
 
-/// The shapes of a formula, of its first part and of that one's first part, and those of its parts.
-fn shapes_down(
-    alloc: Global,
-    node: &Node,
-) -> Result<(StaticResult, Option<StaticResult>, Vec<StaticResult>), Memory> {
-    let mut steps = Steps::new(Plain);
-    let all = analysed(alloc, node, &CrateKinds, &mut steps)?;
-    let first = all
-        .part(0)
-        .and_then(|part| part.part(0))
-        .map(|part| part.shape());
-    Ok((all.shape(), first, all.part_shapes(alloc)?))
-}
-
 #[test]
 fn the_parts_of_a_formula_have_theirs(rt: HostRuntime) -> Result<(), Fail> {
     let alloc = rt.alloc();
-    let both = call(alloc, Function::Choose, at(alloc, range(IN_ROW))?, &[7])?;
-    let (whole, below, parts) = shapes_down(alloc, &both)?;
-    assert_eq!(rt; whole, Scalar);
-    assert_eq!(rt; below, Some(Range(1, 5)));
-    assert_eq!(rt; parts.as_slice(), [Scalar, Scalar].as_slice());
+    let mut steps = Steps::new(Plain);
+    for &(words, wanted) in &PARTS {
+        let all = analyse_all(alloc, &formula(alloc, words)?, &CrateKinds, &mut steps)?;
+        for (index, shape) in wanted.iter().enumerate() {
+            assert_eq!(rt; all.get(index), Some(*shape), "{words}: {index}");
+        }
+        assert_eq!(rt; all.get(wanted.len()), None, "{words}");
+    }
     Ok(())
 }
 
@@ -169,7 +162,7 @@ fn the_parts_of_a_formula_have_theirs(rt: HostRuntime) -> Result<(), Fail> {
 fn whole_formulas_have_their_shapes(rt: HostRuntime) -> Result<(), Fail> {
     let alloc = rt.alloc();
     for &(ends, wanted) in &RANGES {
-        assert_eq!(rt; shape_of(alloc, &range(ends))?, wanted);
+        assert_eq!(rt; shape_of(alloc, &range_between(ends))?, wanted);
     }
     let literal_rows: [&[i64]; 2] = [&[1, 2, 3], &[4, 5, 6]];
     assert_eq!(rt;
@@ -177,20 +170,13 @@ fn whole_formulas_have_their_shapes(rt: HostRuntime) -> Result<(), Fail> {
         Array(2, 3)
     );
     assert_eq!(rt; shape_of(alloc, &literal(alloc, &[])?)?, Array(1, 1));
-    assert_eq!(rt; shape_of(alloc, &at(alloc, range(IN_COLUMN))?)?, Scalar);
-    let sum = Node::OpSumKind {
-        kind: OpSum::Add,
-        left: Boxed::new(alloc, range(IN_COLUMN))?,
-        right: Boxed::new(alloc, Node::NumberKind(1000000))?,
-    };
-    let sine = CrateKinds::by_name("SIN").expect(&rt, "a kind");
-    let sines = call(alloc, Function::Other(sine), sum, &[])?;
-    assert_eq!(rt; shape_of(alloc, &sines)?, Array(5, 1));
-    let range_operator = Node::OpRangeKind {
-        left: Boxed::new(alloc, cell())?,
-        right: Boxed::new(alloc, cell())?,
-    };
-    assert_eq!(rt; shape_of(alloc, &range_operator)?, Unknown);
+    for &(words, wanted) in &WORDS {
+        assert_eq!(rt;
+            shape_of(alloc, &formula(alloc, words)?)?,
+            wanted,
+            "{words}"
+        );
+    }
     Ok(())
 }
 

@@ -1,5 +1,8 @@
+pub mod Parts
 pub mod Places
-pub mod Lists
-pub mod Flagged
+pub mod Preorders
 pub mod Readback
-pub mod AlikeTrees
+pub mod Trees
+pub mod Views
+pub mod Counts
+pub mod Told

@@ -5,7 +5,9 @@
 use Rattle.std.proofs.Common.{◌≡◌, Bool, List, [], ◌∷◌, map, refl, sym, ap, ap₂, ◌∙◌, subst}
 use Rattle.tree_core.specs.Label.{Leaf, Label, leaf, passing, spill, closed, call}
 use Rattle.tree_core.specs.Label.{boolean, number, string, error, empty, reference, range, wrong_reference, wrong_range, array, defined_name, table_name, named_variable, parse_error}
-use Rattle.tree_core.specs.Label.{concatenate, power, sum, product, compare, binary, unary, range_operator, named_call, lambda_definition, lambda_call}
+use Rattle.value_core.specs.declared.operator.Operator.{Operator}
+use Rattle.value_core.specs.declared.operator.Operator.TheVariants.{Concatenate, Power, Sum, Product, Compare}
+use Rattle.tree_core.specs.Label.{binary, unary, range_operator, named_call, lambda_definition, lambda_call}
 use Rattle.tree_core.specs.Tree.{Run, Tree, tree, Trees, none, more, forest, under}
 use Rattle.tree_core.specs.Formula.{layer, tree_of}
 use Rattle.tree_core.specs.declared.node.Node.{Node, roll-Node}
@@ -39,11 +41,11 @@ of_leaf (parse_error formula message position) = Node-F.ParseErrorKind formula m
 abbrev of_label : Label → List Node → Node-F Node
 of_label (leaf l) nodes = of_leaf l
 of_label (closed range_operator) nodes = Node-F.OpRangeKind (first nodes) (first (rest nodes))
-of_label (passing (binary concatenate)) nodes = Node-F.OpConcatenateKind (first nodes) (first (rest nodes))
-of_label (passing (binary (sum kind))) nodes = Node-F.OpSumKind kind (first nodes) (first (rest nodes))
-of_label (passing (binary (product kind))) nodes = Node-F.OpProductKind kind (first nodes) (first (rest nodes))
-of_label (passing (binary power)) nodes = Node-F.OpPowerKind (first nodes) (first (rest nodes))
-of_label (passing (binary (compare kind))) nodes = Node-F.CompareKind kind (first nodes) (first (rest nodes))
+of_label (passing (binary Concatenate)) nodes = Node-F.OpConcatenateKind (first nodes) (first (rest nodes))
+of_label (passing (binary (Sum kind))) nodes = Node-F.OpSumKind kind (first nodes) (first (rest nodes))
+of_label (passing (binary (Product kind))) nodes = Node-F.OpProductKind kind (first nodes) (first (rest nodes))
+of_label (passing (binary Power)) nodes = Node-F.OpPowerKind (first nodes) (first (rest nodes))
+of_label (passing (binary (Compare kind))) nodes = Node-F.CompareKind kind (first nodes) (first (rest nodes))
 of_label (passing (unary kind)) nodes = Node-F.UnaryKind kind (first nodes)
 of_label spill nodes = Node-F.SpillRangeOperator (first nodes)
 of_label (closed (lambda_definition parameters)) nodes = Node-F.LambdaDefKind parameters (first nodes)

@@ -1,25 +1,16 @@
 -- A node without its children and without the `@`s over it.
---   Corner    where one end of a reference lies: absolute, or as the difference to the formula's cell
 --   Sheet     the sheet that a reference names: its name, where one is written, and its number
 --   Leaf      a node that has no children
---   Binary    an operator between two sides, the range operator aside
 --   Passing   a node that hands the context that it stands in to its children and has its shape from theirs
 --   Closed    a node with children that import does not enter
 --   Label     any of these, the spill operator, or a call of a kind of function
 use Rattle.std.specs.Prelude.{ℕ, ℤ, Bool, List, Option}
 use Rattle.call_core.specs.declared.function.Function.{Function}
-use Rattle.tree_core.specs.declared.array.ArrayNode.{ArrayNode}
-use Rattle.tree_core.specs.declared.error.Error.{Error}
-use Rattle.tree_core.specs.declared.operator.OpSum.{OpSum}
-use Rattle.tree_core.specs.declared.operator.OpProduct.{OpProduct}
-use Rattle.tree_core.specs.declared.operator.OpCompare.{OpCompare}
-use Rattle.tree_core.specs.declared.operator.OpUnary.{OpUnary}
-
-pub record Corner : Type 0 where
-  pub absolute_row : Bool
-  pub absolute_column : Bool
-  pub row : ℤ
-  pub column : ℤ
+use Rattle.value_core.specs.declared.array.ArrayNode.{ArrayNode}
+use Rattle.value_core.specs.declared.error.Error.{Error}
+use Rattle.value_core.specs.declared.operator.Operator.{Operator}
+use Rattle.tree_core.specs.declared.corner.Corner.{Corner}
+use Rattle.value_core.specs.declared.operator.OpUnary.{OpUnary}
 
 pub record Sheet : Type 0 where
   pub name : Option (List ℕ)
@@ -41,15 +32,8 @@ pub data Leaf : Type 0 where
   named_variable : List ℕ → Option ℕ → Leaf
   parse_error : List ℕ → List ℕ → ℕ → Leaf
 
-pub data Binary : Type 0 where
-  concatenate : Binary
-  power : Binary
-  sum : OpSum → Binary
-  product : OpProduct → Binary
-  compare : OpCompare → Binary
-
 pub data Passing : Type 0 where
-  binary : Binary → Passing
+  binary : Operator → Passing
   unary : OpUnary → Passing
 
 pub data Closed : Type 0 where

@@ -2,7 +2,7 @@ pub mod Label
 pub mod Tree
 pub mod Place
 pub mod Formula
-pub mod ErrorName
-pub mod Variant
+pub mod View
 pub mod Count
+pub mod Preorder
 pub mod Flags

@@ -1,32 +1,26 @@
 //! Formulas as trees of nodes, and what a formula is apart from memory: its skeleton, places and runs of `@`.
 #![tactic(auto)]
 
-pub use array::{ArrayNode, Rows};
 pub use call_core::{Function, Plain, Steps};
 pub use clone::clone_nodes;
-pub use error::Error;
-pub use laws::{alike_by_flags, runs_fix_the_tree};
-pub use memory::Memory;
-pub use names::{DefinedNameS, Texts};
+pub use corner::Corner;
+pub use defined_name::DefinedNameS;
+pub use laws::{nodes_are_counted, places_are_numbered, runs_fix_the_tree, trees_fix_the_formula};
 pub use node::{Node, Nodes};
-pub use operator::{OpCompare, OpProduct, OpSum, OpUnary};
-pub use position::{CellReferenceIndex, Range};
-pub use text::Text;
+pub use value_core::{
+    ArrayNode, CellReferenceIndex, Error, Memory, OpCompare, OpProduct, OpSum, OpUnary, Operator,
+    Range, Rows, Text, Texts,
+};
+pub use view::{Closed, Leaf, View};
 
-mod array;
-mod bounded;
+mod build;
 mod clone;
+mod compare;
+mod corner;
 mod count;
-mod equality;
-mod error;
-mod flags;
+mod defined_name;
 mod laws;
-mod memory;
-mod names;
 mod node;
-mod operator;
-mod position;
-mod same_reference;
 #[cfg(test)]
 mod tests;
-mod text;
+mod view;

@@ -1,10 +1,7 @@
-use crate::array::Rows;
-use crate::error::Error;
-use crate::names::{DefinedNameS, Texts};
-use crate::operator::{OpCompare, OpProduct, OpSum, OpUnary};
-use crate::text::Text;
+use crate::defined_name::DefinedNameS;
 use call_core::Function;
 use own_items::{Boxed as Box, Items};
+use value_core::{Error, OpCompare, OpProduct, OpSum, OpUnary, Rows, Text, Texts};
 
 /// Some formulas in a row, such as the arguments of a call.
 pub type Nodes = Items<Node>;
@@ -14,13 +11,17 @@ pub type Nodes = Items<Node>;
 /// A row or column of a reference is absolute where its flag holds, else it is the difference to that of the formula's cell.
 #[derive(Debug, Drop)]
 pub enum Node {
+    /// A truth value.
     BooleanKind(bool),
     /// A number, in millionths.
     NumberKind(i64),
+    /// A text.
     StringKind(Text),
+    /// An error value.
     ErrorKind(Error),
     /// An argument that was left out, as the second one of `IF(A1,,2)`.
     EmptyArgKind,
+    /// A reference to one cell, with the sheet's name where one is written.
     ReferenceKind {
         sheet_name: Option<Text>,
         sheet_index: u32,
@@ -29,6 +30,7 @@ pub enum Node {
         row: i32,
         column: i32,
     },
+    /// A reference to all cells between two ends.
     RangeKind {
         sheet_name: Option<Text>,
         sheet_index: u32,
@@ -66,24 +68,29 @@ pub enum Node {
         left: Box<Node>,
         right: Box<Node>,
     },
+    /// The operator `&`.
     OpConcatenateKind {
         left: Box<Node>,
         right: Box<Node>,
     },
+    /// The operators `+` and `-` between two sides.
     OpSumKind {
         kind: OpSum,
         left: Box<Node>,
         right: Box<Node>,
     },
+    /// The operators `*` and `/`.
     OpProductKind {
         kind: OpProduct,
         left: Box<Node>,
         right: Box<Node>,
     },
+    /// The operator `^`.
     OpPowerKind {
         left: Box<Node>,
         right: Box<Node>,
     },
+    /// A call of a kind of functions.
     FunctionKind {
         kind: Function,
         args: Nodes,
@@ -96,22 +103,27 @@ pub enum Node {
     },
     /// An array literal.
     ArrayKind(Rows),
+    /// A name that was defined.
     DefinedNameKind(DefinedNameS),
+    /// The name of a table.
     TableNameKind(Text),
+    /// A name that a LET or LAMBDA around it may bind, and its number where it is bound.
     NamedVariableKind {
         name: Text,
         id: Option<u32>,
     },
+    /// A comparison.
     CompareKind {
         kind: OpCompare,
         left: Box<Node>,
         right: Box<Node>,
     },
+    /// The operators before or behind one operand.
     UnaryKind {
         kind: OpUnary,
         right: Box<Node>,
     },
-    /// A text that is no formula.
+    /// A text that is no formula, what is wrong with it, and where.
     ParseErrorKind {
         formula: Text,
         message: Text,
@@ -126,10 +138,12 @@ pub enum Node {
     SpillRangeOperator {
         child: Box<Node>,
     },
+    /// A lambda: the names of its parameters, and its body.
     LambdaDefKind {
         parameters: Texts,
         body: Box<Node>,
     },
+    /// A call of a lambda.
     LambdaCallKind {
         lambda: Box<Node>,
         args: Nodes,

@@ -1,4 +1,4 @@
-ghost use Rattle.std.specs.Prelude.{◌≡◌, [], ◌∷◌, ◌++◌, IfOk, OnOk};
+ghost use Rattle.std.specs.Prelude.{◌≡◌, [], ◌∷◌, ◌++◌, IfOk};
 ghost use Rattle.call_core.specs.declared.function.Function.TheVariants.{Row};
 ghost use Rattle.tree_core.specs.Count.{size_of};
 ghost use Rattle.tree_core.specs.Formula.{tree_of};
@@ -76,8 +76,10 @@ fn flags_alone_may_differ(rt: HostRuntime) -> Result<(), Fail> {
         assert_eq!(rt; same, !changed.automatic);
     }
     assert!(rt; !equals_wrapped_but_flags(rt.alloc())?);
+    trees_fix_the_formula();
     runs_fix_the_tree();
-    alike_by_flags();
+    nodes_are_counted();
+    places_are_numbered();
     Ok(())
 }
 
@@ -131,65 +133,9 @@ fn row(alloc: Global, argument: Node) -> Result<Node, Memory>
     ensures { IfOk result (λ node. node ≡ FunctionKind Row (argument ∷ [])) }
 {
     let mut args = Items::new(alloc);
-    put(&mut args, argument)?;
+    args.add(argument)?;
     Ok(Node::FunctionKind {
         kind: Function::Row,
         args,
     })
-}
-
-fn put(nodes: &mut Nodes, node: Node) -> Result<(), Memory>
-    ensures { OnOk result (nodes.new ≡ nodes.old ++ node ∷ []) }
-{
-    match nodes.push(node) {
-        Ok(()) => Ok(()),
-        Err(_) => Err(Memory),
-    }
-}
-
-#[test]
-fn lists_give_what_was_put_in(rt: HostRuntime) -> Result<(), Fail> {
-    let alloc = rt.alloc();
-    let given = every::texts(alloc, "ab")?;
-    assert_eq!(rt; given.len(), 2);
-    assert!(rt; matches!(given.get(1), Some(text) if text.as_str() == "ab"));
-    assert!(rt; given.get(2).is_none());
-    let rows = every::rows(alloc, &GIVEN)?;
-    assert_eq!(rt; rows.len(), 2);
-    assert!(rt; matches!(rows.get(0), Some(elements) if elements.len() == 5));
-    assert!(rt; matches!(rows.get(1), Some(elements) if elements.is_empty()));
-    assert!(rt; rows.get(2).is_none());
-    Ok(())
-}
-
-static NAMES: [(Error, &str); 12] = [
-    (Error::REF, "#REF!"),
-    (Error::NAME, "#NAME?"),
-    (Error::VALUE, "#VALUE!"),
-    (Error::DIV, "#DIV/0!"),
-    (Error::NA, "#N/A"),
-    (Error::NUM, "#NUM!"),
-    (Error::ERROR, "#ERROR!"),
-    (Error::NIMPL, "#NIMPL!"),
-    (Error::SPILL, "#SPILL!"),
-    (Error::CALC, "#CALC!"),
-    (Error::CIRC, "#CIRC!"),
-    (Error::NULL, "#NULL!"),
-];
-
-#[test]
-fn small_values_are_told_apart(rt: HostRuntime) {
-    for (index, &(error, name)) in NAMES.iter().enumerate() {
-        assert_eq!(rt; error.name(), name);
-        for (other_index, &(other, _)) in NAMES.iter().enumerate() {
-            assert_eq!(rt; error == other, index == other_index);
-        }
-    }
-    let cell = |sheet, row, column| CellReferenceIndex { sheet, row, column };
-    let range = |left, right| Range { left, right };
-    let given = range(cell(0, 1, 2), cell(0, 3, 4));
-    assert_eq!(rt; given, range(cell(0, 1, 2), cell(0, 3, 4)));
-    assert_ne!(rt; given, range(cell(0, 3, 4), cell(0, 1, 2)));
-    assert_ne!(rt; given.left, cell(1, 1, 2));
-    assert_ne!(rt; given.left, cell(0, 2, 1));
 }

@@ -3,14 +3,17 @@ ghost use Rattle.tree_core.specs.Count.{size_of};
 ghost use Rattle.tree_core.specs.Formula.{tree_of};
 ghost use Rattle.intersect.specs.Export.{ComesBack};
 
-use super::formula::formula;
-use crate::{exported, imported, remove_redundant_implicit_intersection};
-use kind_table::{Asks, CrateKinds, PairKinds};
+use crate::{
+    ImportRule, export_counted, exported, imported, remove_redundant_implicit_intersection,
+};
+use formula_words::formula;
+use kind_table::{Asks, CrateKinds};
+use pair_kinds::PairKinds;
 use std::alloc::Global;
 use std::test::Fail;
-use tree_core::{Node, Plain};
+use tree_core::{Node, Plain, Steps};
 
-/// Imported formulas of which one value is wanted, and the only formula that each is exported as.
+/// Formulas that are imported by the crate's rule, of which one value is wanted, and the only formula that each is exported as.
 static WANTED: [(&str, &str); 12] = [
     ("A1:A3 @ 1 + SIN/1", "A1:A3 @ 1 + SIN/1"),
     ("A1:A5 @ SIN/1 @", "A1:A5 @ SIN/1 @"),
@@ -35,15 +38,57 @@ static NOT_WANTED: [(&str, &str); 2] = [
     ("A1:A5 B1:B3 ~ INDEX/2", "A1:A5 B1:B3 INDEX/2"),
 ];
 
+/// So where every argument taken as one value wants one.
+static EVERY: [(&str, &str); 5] = [
+    ("A1:A5 ~ 1 + SIN/1", "A1:A5 1 + SIN/1"),
+    ("A1:A3 ~ 5 - ABS/1", "A1:A3 5 - ABS/1"),
+    ("x ~ SIN/1", "x SIN/1"),
+    ("x 1 x LET/3", "x 1 x LET/3"),
+    ("A1:A5 @ SIN/1 @", "A1:A5 @ SIN/1 @"),
+];
+
 #[test]
 fn formulas_are_exported(rt: HostRuntime) -> Result<(), Fail> {
     let alloc = rt.alloc();
     for &(given, wanted) in &WANTED {
-        let right = exports(alloc, &CrateKinds, true, given, [wanted, wanted])?;
+        let right = exports(
+            alloc,
+            &CrateKinds,
+            ImportRule::AsCrate,
+            true,
+            given,
+            [wanted, wanted],
+        )?;
         assert!(rt; right, "{given}");
+        assert!(rt;
+            exports_in_place(alloc, true, given, wanted)?,
+            "{given} in place"
+        );
     }
     for &(given, wanted) in &NOT_WANTED {
-        let right = exports(alloc, &CrateKinds, false, given, [wanted, wanted])?;
+        let right = exports(
+            alloc,
+            &CrateKinds,
+            ImportRule::AsCrate,
+            false,
+            given,
+            [wanted, wanted],
+        )?;
+        assert!(rt; right, "{given}");
+        assert!(rt;
+            exports_in_place(alloc, false, given, wanted)?,
+            "{given} in place"
+        );
+    }
+    for &(given, wanted) in &EVERY {
+        let right = exports(
+            alloc,
+            &CrateKinds,
+            ImportRule::EveryScalar,
+            true,
+            given,
+            [wanted, wanted],
+        )?;
         assert!(rt; right, "{given}");
     }
     Ok(())
@@ -55,11 +100,12 @@ fn one_of_two_exports_is_given(rt: HostRuntime) -> Result<(), Fail> {
     let right = exports(
         rt.alloc(),
         &PairKinds,
+        ImportRule::AsCrate,
         true,
-        "A1:A3 @ B1:B3 @ P/2 C1:C3 + FORMULATEXT/1",
+        "A1:A3 @ B1:B3 @ 0/2 C1:C3 + FORMULATEXT/1",
         [
-            "A1:A3 B1:B3 @ P/2 C1:C3 + FORMULATEXT/1",
-            "A1:A3 @ B1:B3 P/2 C1:C3 + FORMULATEXT/1",
+            "A1:A3 B1:B3 @ 0/2 C1:C3 + FORMULATEXT/1",
+            "A1:A3 @ B1:B3 0/2 C1:C3 + FORMULATEXT/1",
         ],
     )?;
     assert!(rt; right);
@@ -70,50 +116,26 @@ fn one_of_two_exports_is_given(rt: HostRuntime) -> Result<(), Fail> {
 fn exports<K: Asks<Plain>>(
     alloc: Global,
     kinds: &K,
+    rule: ImportRule,
     add: bool,
     given: &str,
     wanted: [&str; 2],
 ) -> Result<bool, Fail> {
-    let new = exports_anew(alloc, kinds, add, given, wanted)?;
-    let in_place = exports_in_place(alloc, kinds, add, given, wanted)?;
-    Ok(new && in_place)
-}
-
-fn exports_anew<K: Asks<Plain>>(
-    alloc: Global,
-    kinds: &K,
-    add: bool,
-    given: &str,
-    wanted: [&str; 2],
-) -> Result<bool, Fail> {
-    let export = export_of(alloc, kinds, add, given)?;
-    let right = is_one_of(alloc, &export, wanted)?;
-    drop(export);
-    Ok(right)
-}
-
-fn export_of<K: Asks<Plain>>(
-    alloc: Global,
-    kinds: &K,
-    add: bool,
-    given: &str,
-) -> Result<Node, Fail> {
-    let node = own_import(alloc, kinds, add, given)?;
-    let export = exported(alloc, &node, add, kinds)?;
+    let mut steps = Steps::new(Plain);
+    let mut node = own_import(alloc, kinds, rule, add, given)?;
+    let new = exported(alloc, &node, add, kinds, rule, &mut steps)?;
+    let right = is_one_of(alloc, &new, wanted)?;
+    drop(new);
+    export_counted(alloc, &mut node, add, kinds, rule, &mut steps)?;
+    let in_place = is_one_of(alloc, &node, wanted)?;
     drop(node);
-    Ok(export)
+    Ok(right && in_place)
 }
 
-fn exports_in_place<K: Asks<Plain>>(
-    alloc: Global,
-    kinds: &K,
-    add: bool,
-    given: &str,
-    wanted: [&str; 2],
-) -> Result<bool, Fail> {
-    let mut node = own_import(alloc, kinds, add, given)?;
-    remove_redundant_implicit_intersection(alloc, &mut node, add, kinds)?;
-    let right = is_one_of(alloc, &node, wanted)?;
+fn exports_in_place(alloc: Global, add: bool, given: &str, wanted: &str) -> Result<bool, Fail> {
+    let mut node = own_import(alloc, &CrateKinds, ImportRule::AsCrate, add, given)?;
+    remove_redundant_implicit_intersection(alloc, &mut node, add, &CrateKinds)?;
+    let right = is(alloc, &node, wanted)?;
     drop(node);
     Ok(right)
 }
@@ -122,14 +144,16 @@ fn exports_in_place<K: Asks<Plain>>(
 fn own_import<K: Asks<Plain>>(
     alloc: Global,
     kinds: &K,
+    rule: ImportRule,
     add: bool,
     words: &str,
 ) -> Result<Node, Fail>
-    ensures own_import { IfOk result (λ node. ComesBack (K.table kinds.now) add (tree_of node) (tree_of node)) }
+    ensures own_import { IfOk result (λ node. ComesBack rule (K.table kinds.now) add (tree_of node) (tree_of node)) }
     ensures size { IfOk result (λ node. size_of (tree_of node) ≤ 100) }
 {
     let node = formula(alloc, words)?;
-    let import = imported(alloc, &node, add, kinds)?;
+    let mut steps = Steps::new(Plain);
+    let import = imported(alloc, &node, add, kinds, rule, &mut steps)?;
     let own = import == node && import.has_at_most(100);
     drop(node);
     if own {

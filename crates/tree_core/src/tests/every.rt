@@ -1,5 +1,5 @@
 //! A formula with a node of each variant.
-use super::{at, put};
+use super::at;
 use crate::{
     ArrayNode, DefinedNameS, Error, Function, Memory, Node, Nodes, OpCompare, OpProduct, OpSum,
     OpUnary, Rows, Text, Texts,
@@ -66,40 +66,30 @@ pub fn rows(alloc: Global, fields: &Fields<'static>) -> Result<Rows, Memory> {
 }
 
 fn put_values(alloc: Global, nodes: &mut Nodes, fields: &Fields<'static>) -> Result<(), Memory> {
-    put(nodes, Node::BooleanKind(fields.flag))?;
-    put(nodes, Node::NumberKind(i64::from(fields.number)))?;
-    put(
-        nodes,
-        Node::StringKind(Text::from_text(alloc, fields.text)?),
-    )?;
-    put(nodes, Node::ErrorKind(Error::CALC))?;
-    put(nodes, Node::EmptyArgKind)?;
-    put(nodes, Node::ArrayKind(rows(alloc, fields)?))
+    nodes.add(Node::BooleanKind(fields.flag))?;
+    nodes.add(Node::NumberKind(i64::from(fields.number)))?;
+    nodes.add(Node::StringKind(Text::from_text(alloc, fields.text)?))?;
+    nodes.add(Node::ErrorKind(Error::CALC))?;
+    nodes.add(Node::EmptyArgKind)?;
+    nodes.add(Node::ArrayKind(rows(alloc, fields)?))?;
+    Ok(())
 }
 
 fn put_names(alloc: Global, nodes: &mut Nodes, fields: &Fields<'static>) -> Result<(), Memory> {
     let name = Text::from_text(alloc, fields.text)?;
     let formula = Text::from_text(alloc, "A1")?;
-    put(
-        nodes,
-        Node::DefinedNameKind(DefinedNameS(name, Some(3), formula)),
-    )?;
-    put(
-        nodes,
-        Node::TableNameKind(Text::from_text(alloc, fields.text)?),
-    )?;
+    nodes.add(Node::DefinedNameKind(DefinedNameS(name, Some(3), formula)))?;
+    nodes.add(Node::TableNameKind(Text::from_text(alloc, fields.text)?))?;
     let name = Text::from_text(alloc, "x")?;
-    put(nodes, Node::NamedVariableKind { name, id: None })?;
+    nodes.add(Node::NamedVariableKind { name, id: None })?;
     let formula = Text::from_text(alloc, "1+")?;
     let message = Text::from_text(alloc, fields.text)?;
-    put(
-        nodes,
-        Node::ParseErrorKind {
-            formula,
-            message,
-            position: 2,
-        },
-    )
+    nodes.add(Node::ParseErrorKind {
+        formula,
+        message,
+        position: 2,
+    })?;
+    Ok(())
 }
 
 fn put_references(
@@ -108,102 +98,96 @@ fn put_references(
     fields: &Fields<'static>,
 ) -> Result<(), Memory> {
     let sheet_name = Some(Text::from_text(alloc, fields.text)?);
-    put(
-        nodes,
-        Node::ReferenceKind {
-            sheet_name,
-            sheet_index: 4,
-            absolute_row: fields.flag,
-            absolute_column: false,
-            row: fields.number,
-            column: -7,
-        },
-    )?;
-    put(
-        nodes,
-        Node::WrongReferenceKind {
-            sheet_name: None,
-            absolute_row: false,
-            absolute_column: fields.flag,
-            row: 1,
-            column: fields.number,
-        },
-    )
+    nodes.add(Node::ReferenceKind {
+        sheet_name,
+        sheet_index: 4,
+        absolute_row: fields.flag,
+        absolute_column: false,
+        row: fields.number,
+        column: -7,
+    })?;
+    nodes.add(Node::WrongReferenceKind {
+        sheet_name: None,
+        absolute_row: false,
+        absolute_column: fields.flag,
+        row: 1,
+        column: fields.number,
+    })?;
+    Ok(())
 }
 
 fn put_ranges(alloc: Global, nodes: &mut Nodes, fields: &Fields<'static>) -> Result<(), Memory> {
     let sheet_name = Some(Text::from_text(alloc, fields.text)?);
-    put(
-        nodes,
-        Node::RangeKind {
-            sheet_name: None,
-            sheet_index: 0,
-            absolute_row1: true,
-            absolute_column1: fields.flag,
-            row1: 1,
-            column1: -2,
-            absolute_row2: false,
-            absolute_column2: true,
-            row2: fields.number,
-            column2: 4,
-        },
-    )?;
-    put(
-        nodes,
-        Node::WrongRangeKind {
-            sheet_name,
-            absolute_row1: true,
-            absolute_column1: false,
-            row1: 1,
-            column1: -2,
-            absolute_row2: fields.flag,
-            absolute_column2: true,
-            row2: 9,
-            column2: fields.number,
-        },
-    )
+    nodes.add(Node::RangeKind {
+        sheet_name: None,
+        sheet_index: 0,
+        absolute_row1: true,
+        absolute_column1: fields.flag,
+        row1: 1,
+        column1: -2,
+        absolute_row2: false,
+        absolute_column2: true,
+        row2: fields.number,
+        column2: 4,
+    })?;
+    nodes.add(Node::WrongRangeKind {
+        sheet_name,
+        absolute_row1: true,
+        absolute_column1: false,
+        row1: 1,
+        column1: -2,
+        absolute_row2: fields.flag,
+        absolute_column2: true,
+        row2: 9,
+        column2: fields.number,
+    })?;
+    Ok(())
 }
 
 fn put_operators(alloc: Global, nodes: &mut Nodes) -> Result<(), Memory> {
     let (left, right) = (boxed(alloc, 1)?, boxed(alloc, 2)?);
-    put(nodes, Node::OpRangeKind { left, right })?;
+    nodes.add(Node::OpRangeKind { left, right })?;
     let (left, right) = (boxed(alloc, 3)?, boxed(alloc, 4)?);
-    put(nodes, Node::OpConcatenateKind { left, right })?;
+    nodes.add(Node::OpConcatenateKind { left, right })?;
     let (left, right) = (boxed(alloc, 5)?, boxed(alloc, 6)?);
-    put(nodes, Node::OpPowerKind { left, right })
+    nodes.add(Node::OpPowerKind { left, right })?;
+    Ok(())
 }
 
 fn put_operators_of_kind(alloc: Global, nodes: &mut Nodes) -> Result<(), Memory> {
     let (left, right) = (boxed(alloc, 1)?, boxed(alloc, 2)?);
     let kind = OpSum::Minus;
-    put(nodes, Node::OpSumKind { kind, left, right })?;
+    nodes.add(Node::OpSumKind { kind, left, right })?;
     let (left, right) = (boxed(alloc, 3)?, boxed(alloc, 4)?);
     let kind = OpProduct::Divide;
-    put(nodes, Node::OpProductKind { kind, left, right })?;
+    nodes.add(Node::OpProductKind { kind, left, right })?;
     let (left, right) = (boxed(alloc, 5)?, boxed(alloc, 6)?);
     let kind = OpCompare::NonEqual;
-    put(nodes, Node::CompareKind { kind, left, right })
+    nodes.add(Node::CompareKind { kind, left, right })?;
+    Ok(())
 }
 
 fn put_wrappers(alloc: Global, nodes: &mut Nodes, fields: &Fields<'static>) -> Result<(), Memory> {
     let kind = OpUnary::Percentage;
     let right = boxed(alloc, 1)?;
-    put(nodes, Node::UnaryKind { kind, right })?;
-    put(nodes, at(alloc, fields.automatic, Node::NumberKind(2))?)?;
+    nodes.add(Node::UnaryKind { kind, right })?;
+    nodes.add(at(alloc, fields.automatic, Node::NumberKind(2))?)?;
     let child = boxed(alloc, 3)?;
-    put(nodes, Node::SpillRangeOperator { child })?;
+    nodes.add(Node::SpillRangeOperator { child })?;
     let parameters = texts(alloc, fields.text)?;
     let body = boxed(alloc, 4)?;
-    put(nodes, Node::LambdaDefKind { parameters, body })
+    nodes.add(Node::LambdaDefKind { parameters, body })?;
+    Ok(())
 }
 
 fn put_calls(alloc: Global, nodes: &mut Nodes, fields: &Fields<'static>) -> Result<(), Memory> {
     let mut args = Items::new(alloc);
-    put(&mut args, Node::EmptyArgKind)?;
+    args.add(Node::EmptyArgKind)?;
     let name = Text::from_text(alloc, fields.text)?;
     let id = Some(9);
-    put(nodes, Node::NamedFunctionKind { name, id, args })?;
+    nodes.add(Node::NamedFunctionKind { name, id, args })?;
     let lambda = boxed(alloc, 1)?;
     let args = Items::new(alloc);
-    put(nodes, Node::LambdaCallKind { lambda, args })
+    nodes.add(Node::LambdaCallKind { lambda, args })?;
+    Ok(())
 }

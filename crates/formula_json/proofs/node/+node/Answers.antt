@@ -1,5 +1,7 @@
+use Rattle.std.proofs.Common.{ap, map}
+use Rattle.tree_core.specs.Formula.{tree_of}
 use Rattle.formula_json.specs.Formula.{node_seen}
-use Rattle.formula_json.proofs.Each.{reached-first}
+use Rattle.value_json.proofs.Traversal.{reached-first}
 use Rattle.formula_json.proofs.Seen.{node_of-Array}
 use Rattle.formula_json.proofs.node.+node.Goals as goal
 
@@ -8,4 +10,4 @@ read_node-returns-in-Array t c = rw (c.in-Array.is, node_of-Array, ← c.deref.e
 
 pub read_arguments-loop-index-init : goal.read_arguments-loop-index-init
 read_arguments-loop-index-init t c =
-    reached-first (λ node. node) node_seen c.args.items.now c.new-arguments.result c.args.from c.new-arguments.ensures
+    reached-first (λ node. node) node_seen c.args.items.now (map tree_of c.new-arguments.result) c.args.from (ap (map tree_of) c.new-arguments.ensures)

@@ -7,4 +7,4 @@ use Rattle.print_core.proofs.answer.answer_line.Goals as goal
 pub returns : goal.returns
 returns c =
     rw (c.in_ok-push.ensures.items, c.into_inner-line.ensures.items, c.write_answer.ensures.before, c.new-writer.ensures.before, c.new.ensures.items, c.in_ok-write_answer.ensures.tokens, c.new-writer.ensures.tokens)
-    (ap (λ text. text ++ 10 ∷ []) (print-outline (answer_data c.args.exported.now c.args.imported.now)))
+    (ap (λ text. text ++ 10 ∷ []) (print-outline (answer_data c.args.answer.now)))

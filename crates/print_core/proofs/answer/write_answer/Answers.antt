@@ -1,8 +1,12 @@
 -- The tokens of the parts, one after another, are those of the object.
-use Rattle.std.proofs.Common.{append_assoc}
+use Rattle.std.proofs.Common.{rules}
+use Rattle.print_core.proofs.Parts.{six-parts}
 use Rattle.print_core.proofs.answer.write_answer.Goals as goal
 
-pub returns-clause-tokens : goal.returns-clause-tokens
-returns-clause-tokens c =
-    rw (c.in_ok-end_object.ensures.ok, c.in_ok-write_member-2.ensures.tokens, c.in_ok-write_member.ensures.tokens, c.in_ok-begin_object.ensures.ok)
-    (simp append_assoc)
+pub returns : goal.returns
+returns c = record {
+  before = search rules;
+  tokens =
+      rw (c.in_ok-end_object.ensures.ok, c.in_ok-write_value-2.ensures.tokens, c.in_ok-write_value.ensures.tokens, c.in_ok-write_shape-2.ensures.tokens, c.in_ok-write_formula-2.ensures.tokens, c.in_ok-write_shape.ensures.tokens, c.in_ok-write_formula.ensures.tokens, c.in_ok-begin_object.ensures.ok)
+      (six-parts _ _ _ _ _ _ _ _ _);
+}

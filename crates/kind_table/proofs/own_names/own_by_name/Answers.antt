@@ -1,5 +1,0 @@
-use Rattle.kind_table.proofs.Sorts.{own_by_name}
-use Rattle.kind_table.proofs.own_names.own_by_name.Goals as goal
-
-pub returns : goal.returns
-returns c = λ kind. rw c.own_in.ensures (own_by_name c.function_named.result c.args.name.now c.function_named.ensures kind)

@@ -1,0 +1,8 @@
+-- The greatest number so far.
+use Rattle.std.proofs.Common.{◌≡◌, take}
+use Rattle.std.specs.Prelude.{fold}
+use Rattle.std.specs.Int.{int_max}
+use Rattle.kind_values.proofs.reckoning.greatest_from.Given as goal
+
+abbrev pub invariant-loop-number : goal.invariant-loop-number
+invariant-loop-number l = l.found ≡ fold int_max l.first (take l.number-index l.numbers)

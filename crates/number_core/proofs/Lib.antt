@@ -1,0 +1,4 @@
+pub mod Powers
+pub mod Fraction
+pub mod Fits
+pub mod Back

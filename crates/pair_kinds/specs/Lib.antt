@@ -1,0 +1,2 @@
+pub mod PairTable
+pub mod PairLaws

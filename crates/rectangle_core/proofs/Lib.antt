@@ -1,0 +1,3 @@
+pub mod Cuts
+pub mod Fills
+pub mod Rectangles

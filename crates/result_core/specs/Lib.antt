@@ -1,0 +1,4 @@
+pub mod Finding
+pub mod Single
+pub mod Intersection
+pub mod Span

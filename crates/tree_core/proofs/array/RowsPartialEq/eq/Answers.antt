@@ -1,7 +1,0 @@
-use Rattle.std.specs.Coded.{coded_list}
-use Rattle.tree_core.specs.contracts.array.ArrayNode.{the_row}
-use Rattle.own_items.specs.Sameness.{same_from_iff}
-use Rattle.tree_core.proofs.array.RowsPartialEq.eq.Goals as goal
-
-pub returns-clause-same_code : goal.returns-clause-same_code
-returns-clause-same_code c = same_from_iff (coded_list (coded_list the_row.coded)) c.is.result c.args.self.now c.args.other.now c.is.ensures

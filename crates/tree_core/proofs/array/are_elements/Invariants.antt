@@ -1,6 +1,0 @@
--- What was compared so far is alike in both.
-use Rattle.std.proofs.Common.{◌≡◌, take}
-use Rattle.tree_core.proofs.array.are_elements.Given as goal
-
-abbrev pub invariant-loop-index : goal.invariant-loop-index
-invariant-loop-index l = take l.index l.elements ≡ take l.index l.others

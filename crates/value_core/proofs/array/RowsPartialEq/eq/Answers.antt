@@ -1,0 +1,7 @@
+use Rattle.std.specs.Coded.{coded_list}
+use Rattle.value_core.specs.contracts.array.ArrayNode.{the_row}
+use Rattle.own_items.specs.Sameness.{same_from_iff}
+use Rattle.value_core.proofs.array.RowsPartialEq.eq.Goals as goal
+
+pub returns-clause-same_code : goal.returns-clause-same_code
+returns-clause-same_code c = same_from_iff (coded_list (coded_list the_row.coded)) c.is.result c.args.self.now c.args.other.now c.is.ensures

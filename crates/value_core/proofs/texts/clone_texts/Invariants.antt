@@ -1,0 +1,6 @@
+-- What is copied so far is the first part of what was given.
+use Rattle.std.proofs.Common.{◌≡◌, take}
+use Rattle.value_core.proofs.texts.clone_texts.Given as goal
+
+abbrev pub invariant-loop-index : goal.invariant-loop-index
+invariant-loop-index l = l.copy.items ≡ take l.index l.texts

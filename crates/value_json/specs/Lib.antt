@@ -1,0 +1,10 @@
+pub mod Reading
+pub mod Fields
+pub mod Objects
+pub mod Traverse
+pub mod Piece
+pub mod ErrorValues
+pub mod Values
+pub mod Texts
+pub mod InRange
+pub mod ReadsBack
