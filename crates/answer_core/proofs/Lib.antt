@@ -1,3 +1,4 @@
+pub mod Fits
 mod Words
 pub mod Questions
 pub mod Runs

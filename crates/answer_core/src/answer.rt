@@ -3,7 +3,7 @@ ghost use Rattle.tree_core.specs.Count.{calls_of, size_of};
 ghost use Rattle.tree_core.specs.Formula.{tree_of};
 ghost use Rattle.validity_core.specs.Place.{bad_place};
 ghost use Rattle.eval_core.specs.Own.{setting};
-ghost use Rattle.answer_core.specs.Answers.{Answers, Judges, most_questions};
+ghost use Rattle.answer_core.specs.Answers.{Answers, FitTheirShapes, Judges, most_questions};
 ghost use Rattle.answer_core.specs.Parts.{AreFormulas, AreShapes, AreValues, formula_questions};
 
 use book_core::Reads;
@@ -20,6 +20,8 @@ use tree_core::{CellReferenceIndex, Memory, Node, Plain, Steps};
 /// greatest number of cells of an array that a function makes. The formula stays as it is, and has fewer than 2^63 nodes, since
 /// import may double them.
 ///
+/// Each of the two values has at most as many rows and columns as its shape says.
+///
 /// `BadRequest` comes exactly where the formula isn't valid there, with the first bad place, and takes no memory. The table is
 /// asked at most `2 * C * ((n + 1) * (n + 1) + 2)` times, with C calls in the formula and n `@`s in its import.
 pub fn answer_formula<K: Asks<L>, B: Reads<Plain>, L>(
@@ -34,6 +36,7 @@ pub fn answer_formula<K: Asks<L>, B: Reads<Plain>, L>(
 ) -> Result<Answer, Fault>
     requires countable { 2 * size_of (tree_of node.now) < 2 ^ 64 }
     ensures answers { IfOk result (Answers rule (setting (K.table kinds.now) (B.contents book.now) limit cell) (tree_of node.now)) }
+    ensures fits { IfOk result FitTheirShapes }
     ensures judged { Judges result (bad_place (K.table kinds.now) (length (B.contents book.now).sheets) cell (tree_of node.now)) }
     ensures counted { steps.new ≤ steps.old + most_questions rule (K.table kinds.now) (tree_of node.now) }
 {
@@ -59,6 +62,7 @@ fn answer_of<K: Asks<L>, B: Reads<Plain>, L>(
 ) -> Result<Answer, Memory>
     requires countable { 2 * size_of (tree_of node.now) < 2 ^ 64 }
     ensures answers { IfOk result (Answers rule (setting (K.table kinds.now) (B.contents book.now) limit cell) (tree_of node.now)) }
+    ensures fits { IfOk result FitTheirShapes }
     ensures counted { steps.new ≤ steps.old + most_questions rule (K.table kinds.now) (tree_of node.now) }
 {
     let formulas = formulas_of(alloc, kinds, rule, node, steps)?;
@@ -135,7 +139,7 @@ fn values_of<K: Kinds, B: Reads<Plain>>(
     given: &Node,
     imported: &Node,
 ) -> Result<Values, Memory>
-    ensures { IfOk result (AreValues (setting (K.table kinds.now) (B.contents book.now) limit cell) (tree_of given.now) (tree_of imported.now)) }
+    ensures made { IfOk result (AreValues (setting (K.table kinds.now) (B.contents book.now) limit cell) (tree_of given.now) (tree_of imported.now)) }
 {
     let evaluator = Evaluator { kinds, book, limit };
     let mut reads = Steps::new(Plain);

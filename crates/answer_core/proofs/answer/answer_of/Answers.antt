@@ -1,5 +1,6 @@
 use Rattle.tree_core.specs.Count.{calls_of}
 use Rattle.tree_core.specs.Formula.{tree_of}
+use Rattle.answer_core.proofs.Fits.{fits-by}
 use Rattle.answer_core.proofs.Questions.{imported-calls, asked-shapes}
 use Rattle.answer_core.proofs.answer.answer_of.Goals as goal
 
@@ -17,3 +18,8 @@ pub returns-clause-counted : goal.returns-clause-counted
 returns-clause-counted g c =
     asked-shapes (calls_of (tree_of c.args.node.now)) _ _ _ _ _ (imported-calls _ _ _ _ c.in_ok-formulas.ensures.made.import)
     c.in_ok-formulas.ensures.counted c.in_ok-shapes.ensures.counted
+
+pub returns-clause-fits : goal.returns-clause-fits
+returns-clause-fits g c = record {
+  spilled = fits-by _ (g.met.K.Kinds.lawful c.args.kinds.now) _ _ _ c.in_ok-shapes.ensures.made.given_is c.in_ok-values.ensures.made.spilled_is;
+  legacy = fits-by _ (g.met.K.Kinds.lawful c.args.kinds.now) _ _ _ c.in_ok-shapes.ensures.made.imported_is c.in_ok-values.ensures.made.legacy_is }
