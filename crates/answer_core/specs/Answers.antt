@@ -1,12 +1,12 @@
 -- What an answer says of a formula.
 --   Answers         in a setting and by a rule of import, where one value is wanted of the whole: one formula is the imported one,
 --                   and the other an export of it; the shapes and the values are those of the given and of the imported formula
---   FitTheirShapes  the value of the given formula is no larger than the given shape says, and that of the imported one no larger
---                   than the imported shape
+--   FitTheirShapes  both values are rectangles; that of the given formula is no larger than the given shape says, and that of the
+--                   imported one no larger than the imported shape
 --   Judges          an answer, or want of memory, where no place of the formula is bad; else the first bad one
 --   most_questions  how often the table of kinds is asked at most
 use Rattle.std.specs.Prelude.{◌≡◌, ℕ, ◌+◌, ◌*◌, true, Option, None, Some, Result, Ok, Err}
-use Rattle.rectangle_core.specs.Rectangle.{height, width}
+use Rattle.rectangle_core.specs.Rectangle.{height, IsRectangle, width}
 use Rattle.kind_table.specs.Fit.{SizeFits}
 use Rattle.kind_table.specs.Table.{Table}
 use Rattle.tree_core.specs.Count.{ats_of, calls_of}
@@ -34,8 +34,10 @@ pub record Answers (rule : ImportRule) (here : Setting) (formula : Tree) (answer
   pub legacy : answer.legacy ≡ mean here (tree_of answer.imported)
 
 pub record FitTheirShapes (answer : Answer) : Type 0 where
-  pub spilled : SizeFits answer.given_shape (height answer.spilled) (width answer.spilled)
-  pub legacy : SizeFits answer.imported_shape (height answer.legacy) (width answer.legacy)
+  pub spilled_is : IsRectangle answer.spilled
+  pub legacy_is : IsRectangle answer.legacy
+  pub spilled_fits : SizeFits answer.given_shape (height answer.spilled) (width answer.spilled)
+  pub legacy_fits : SizeFits answer.imported_shape (height answer.legacy) (width answer.legacy)
 
 abbrev pub Judges : Result Answer Fault → Option Place → Type 0
 Judges (Ok answer) bad = bad ≡ None

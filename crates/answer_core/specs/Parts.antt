@@ -1,9 +1,10 @@
 -- The parts of an answer.
 --   AreFormulas   the imported formula, and an export of it
 --   AreShapes     the shapes of the given and of the imported formula
---   AreValues     their values in a setting
+--   AreValues     their values in a setting; AreRectangles, that these are
 --   formula_questions   how often the table of kinds is asked for the formulas at most
 use Rattle.std.specs.Prelude.{◌≡◌, ℕ, ◌+◌, ◌*◌, true}
+use Rattle.rectangle_core.specs.Rectangle.{IsRectangle}
 use Rattle.kind_table.specs.Table.{Table}
 use Rattle.tree_core.specs.Count.{ats_of, calls_of}
 use Rattle.tree_core.specs.Formula.{tree_of}
@@ -31,6 +32,10 @@ pub record AreShapes (table : Table) (given imported : Tree) (made : Shapes) : T
 pub record AreValues (here : Setting) (given imported : Tree) (made : Values) : Type 0 where
   pub spilled_is : made.spilled ≡ mean here given
   pub legacy_is : made.legacy ≡ mean here imported
+
+pub record AreRectangles (made : Values) : Type 0 where
+  pub spilled_is : IsRectangle made.spilled
+  pub legacy_is : IsRectangle made.legacy
 
 abbrev pub questions_for : (calls ats : ℕ) → ℕ
 questions_for calls ats = 2 * calls * ((ats + 1) * (ats + 1) + 1)

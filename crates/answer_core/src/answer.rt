@@ -4,7 +4,7 @@ ghost use Rattle.tree_core.specs.Formula.{tree_of};
 ghost use Rattle.validity_core.specs.Place.{bad_place};
 ghost use Rattle.eval_core.specs.Own.{setting};
 ghost use Rattle.answer_core.specs.Answers.{Answers, FitTheirShapes, Judges, most_questions};
-ghost use Rattle.answer_core.specs.Parts.{AreFormulas, AreShapes, AreValues, formula_questions};
+ghost use Rattle.answer_core.specs.Parts.{AreFormulas, AreRectangles, AreShapes, AreValues, formula_questions};
 
 use book_core::Reads;
 use eval_core::{Evaluator, Fault, valid};
@@ -140,10 +140,13 @@ fn values_of<K: Kinds, B: Reads<Plain>>(
     imported: &Node,
 ) -> Result<Values, Memory>
     ensures made { IfOk result (AreValues (setting (K.table kinds.now) (B.contents book.now) limit cell) (tree_of given.now) (tree_of imported.now)) }
+    ensures rectangles { IfOk result AreRectangles }
 {
     let evaluator = Evaluator { kinds, book, limit };
     let mut reads = Steps::new(Plain);
     let spilled = evaluator.formula_value(alloc, given, cell, &mut reads)?;
     let legacy = evaluator.formula_value(alloc, imported, cell, &mut reads)?;
+    // A grid tells of itself that it is a rectangle.
+    let _rows = (spilled.rows(), legacy.rows());
     Ok(Values { spilled, legacy })
 }

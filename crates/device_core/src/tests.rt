@@ -39,6 +39,34 @@ impl Read for Broken {
     }
 }
 
+// What each call of a source of the bytes abcdef gives, two at most, where the second call fails, and what then stands in
+// the three places.
+static TAKES: [(Result<usize, Failed>, &str); 5] = [
+    (Ok(2), "ab_"),
+    (Err(Failed), "ab_"),
+    (Ok(2), "cd_"),
+    (Ok(2), "ef_"),
+    (Ok(0), "ef_"),
+];
+
+// What each piece given to a sink of five places comes to, three bytes at most, where the first and the third call fail, and
+// what is then kept.
+static GIVES: [(&str, Result<usize, Failed>, &str); 5] = [
+    ("abcd", Err(Failed), ""),
+    ("abcd", Ok(3), "abc"),
+    ("d", Err(Failed), "abc"),
+    ("d", Ok(1), "abcd"),
+    ("efg", Ok(3), "abcde"),
+];
+
+// Sources of so many zeros, which break at the end or don't, and what reading to the end comes to.
+static ENDS: [(usize, bool, Result<usize, ReadError>); 4] = [
+    (9_000, false, Ok(9_000)),
+    (9_000, true, Err(ReadError::Fault)),
+    (16_777_216, false, Ok(16_777_216)),
+    (16_777_217, true, Err(ReadError::TooLong)),
+];
+
 // How many bytes reading to the end gives.
 fn count_read<S: Source>(rt: &HostRuntime, source: &mut S) -> Result<usize, ReadError> {
     let bytes = read_to_end(rt.alloc(), source)?;
@@ -50,16 +78,9 @@ fn a_memory_source_gives_short_pieces_and_fails_on_time(rt: HostRuntime) -> Resu
     let failing = [2].to_vec(rt.alloc())?;
     let mut source = MemorySource::new(b"abcdef".to_vec(rt.alloc())?, 2, failing);
     let mut into = *b"___";
-    let wanted = [
-        (Ok(2), b"ab_"),
-        (Err(Failed), b"ab_"),
-        (Ok(2), b"cd_"),
-        (Ok(2), b"ef_"),
-        (Ok(0), b"ef_"),
-    ];
-    for (answer, bytes) in wanted {
+    for &(answer, bytes) in &TAKES {
         assert_eq!(rt; source.take(&mut into), answer);
-        assert_eq!(rt; into.as_slice(), bytes.as_slice());
+        assert_eq!(rt; into.as_slice(), bytes.as_bytes());
     }
     let mut single = MemorySource::new(b"xyz".to_vec(rt.alloc())?, 1, Vec::new(rt.alloc()));
     assert_eq!(rt; single.take(&mut into), Ok(1));
@@ -71,14 +92,7 @@ fn a_memory_source_gives_short_pieces_and_fails_on_time(rt: HostRuntime) -> Resu
 fn a_memory_sink_keeps_what_it_has_room_for(rt: HostRuntime) -> Result<(), Fail> {
     let failing = [1, 3].to_vec(rt.alloc())?;
     let mut sink = MemorySink::new(rt.alloc(), 5, 3, failing)?;
-    let wanted: [(&str, Result<usize, Failed>, &str); 5] = [
-        ("abcd", Err(Failed), ""),
-        ("abcd", Ok(3), "abc"),
-        ("d", Err(Failed), "abc"),
-        ("d", Ok(1), "abcd"),
-        ("efg", Ok(3), "abcde"),
-    ];
-    for (piece, answer, kept) in wanted {
+    for &(piece, answer, kept) in &GIVES {
         assert_eq!(rt; sink.give(piece.as_bytes()), answer);
         assert_eq!(rt; sink.written(), kept.as_bytes());
     }
@@ -114,13 +128,7 @@ fn reading_stops_at_the_limit(rt: HostRuntime) -> Result<(), Fail> {
     assert_eq!(rt; count_read(&rt, &mut full), Ok(LIMIT));
     let mut over = SureSource::new(vec![in rt.alloc(); b' '; LIMIT + 1]?);
     assert_eq!(rt; count_read(&rt, &mut over), Err(ReadError::TooLong));
-    let wanted = [
-        (9_000, false, Ok(9_000)),
-        (9_000, true, Err(ReadError::Fault)),
-        (LIMIT, false, Ok(LIMIT)),
-        (LIMIT + 1, true, Err(ReadError::TooLong)),
-    ];
-    for (left, breaks, answer) in wanted {
+    for &(left, breaks, answer) in &ENDS {
         let mut zeros = Zeros {
             left,
             breaks,

@@ -95,12 +95,12 @@ fn a_sum_over_a_range_is_an_array(rt: HostRuntime) -> Result<(), Fail> {
     let met = Node::intersection(alloc, false, column(alloc)?)?;
     let grid = evaluator.eval_to_array(alloc, &met, at(2, 9), &mut steps)?;
     assert!(rt;
-        matches!(grid, Ok(grid) if grid == Grid::of_one(alloc, ArrayNode::Number(2000000))?)
+        matches!(&grid, Ok(grid) if *grid == Grid::of_one(alloc, ArrayNode::Number(2000000))?)
     );
     let error = evaluator.eval_to_array(alloc, &met, at(9, 9), &mut steps)?;
     assert!(rt;
         matches!(
-            error,
+            &error,
             Err(CalcResult::Error {
                 error: Error::REF,
                 ..

@@ -64,21 +64,27 @@ fn a_cell_stands_for_its_value_or_for_itself(rt: HostRuntime) -> Result<(), Fail
     Ok(())
 }
 
+/// Whether a value is a rectangle with the text `2` below its first element.
+fn has_text_below(value: &Value) -> bool {
+    match value {
+        Value::Grid(grid) => {
+            matches!(grid.get(1, 0), Some(ArrayNode::String(text)) if text.as_str() == "2")
+        }
+        _ => false,
+    }
+}
+
 #[test]
 fn a_range_is_read_as_a_value_and_as_a_rectangle(rt: HostRuntime) -> Result<(), Fail> {
     let alloc = rt.alloc();
     let book = book(alloc)?;
     let mut steps = Steps::new(Plain);
-    match value_of(alloc, &book, column(), &mut steps)? {
-        Value::Grid(grid) => {
-            assert!(rt; matches!(grid.get(1, 0), Some(element) if *element == text(alloc, "2")?));
-        }
-        _ => assert!(rt; false),
-    }
+    let value = value_of(alloc, &book, column(), &mut steps)?;
+    assert!(rt; has_text_below(&value));
     let grid = array_of(alloc, &book, CalcResult::EmptyCell, &mut steps)?;
-    assert!(rt; matches!(grid, Ok(grid) if grid == Grid::of_one(alloc, ArrayNode::Number(0))?));
+    assert!(rt; matches!(&grid, Ok(grid) if *grid == Grid::of_one(alloc, ArrayNode::Number(0))?));
     let error = array_of(alloc, &book, wrong(CELL, Error::NUM), &mut steps)?;
-    assert!(rt; matches!(error, Err(Error::NUM)));
+    assert!(rt; matches!(&error, Err(Error::NUM)));
     Ok(())
 }
 
@@ -94,7 +100,7 @@ fn casts_go_through_the_cell_that_is_found(rt: HostRuntime) -> Result<(), Fail> 
     let truth = bool_found(&book, CELL, Found::Cell(at(1, 1)), &mut steps);
     assert_eq!(rt; truth, Ok(true));
     let found = string_found(alloc, &book, CELL, Found::Cell(at(1, 1)), &mut steps)?;
-    assert!(rt; matches!(found, Ok(text) if text.as_str() == "1.5"));
+    assert!(rt; matches!(&found, Ok(text) if text.as_str() == "1.5"));
     let array = CalcResult::Array(Grid::of_one(alloc, ArrayNode::Number(1))?);
     assert_eq!(rt;
         number_found(&book, CELL, Found::Same(array), &mut steps),
@@ -116,10 +122,10 @@ fn casts_go_through_the_cell_that_is_found(rt: HostRuntime) -> Result<(), Fail> 
 fn an_at_takes_one_value_and_a_colon_spans(rt: HostRuntime) -> Result<(), Fail> {
     let alloc = rt.alloc();
     let found = intersection_found(alloc, CELL, column())?;
-    assert!(rt; matches!(found, Found::Cell(found) if found == at(2, 1)));
+    assert!(rt; matches!(&found, Found::Cell(found) if *found == at(2, 1)));
     let array = CalcResult::Array(Grid::of_one(alloc, text(alloc, "x")?)?);
     let found = intersection_found(alloc, CELL, array)?;
-    assert!(rt; matches!(found, Found::Same(CalcResult::String(text)) if text.as_str() == "x"));
+    assert!(rt; matches!(&found, Found::Same(CalcResult::String(text)) if text.as_str() == "x"));
     let both = span_of(
         CELL,
         range_between(at(3, 1), at(1, 2)),

@@ -65,28 +65,14 @@ static KINDS: [(&str, &str, [&str; 8]); 13] = [
         "COUNT",
         "",
         [
-            "1000000",
-            "1000000",
-            "1000000",
-            "0",
-            "0",
-            "0",
-            "1000000",
-            "2000000",
+            "1000000", "1000000", "1000000", "0", "0", "0", "1000000", "2000000",
         ],
     ),
     (
         "COUNTA",
         "",
         [
-            "1000000",
-            "1000000",
-            "1000000",
-            "0",
-            "0",
-            "1000000",
-            "2000000",
-            "4000000",
+            "1000000", "1000000", "1000000", "0", "0", "1000000", "2000000", "4000000",
         ],
     ),
     (
@@ -208,7 +194,10 @@ fn thirteen_kinds_take_eight_forms(rt: HostRuntime) -> Result<(), Fail> {
     let alloc = rt.alloc();
     let words = owned(alloc, &["answer"])?;
     for (kind, behind, values) in &KINDS {
-        assert!(rt; has_values(alloc, words.as_slice(), kind, behind, values)?, "{kind}");
+        assert!(rt;
+            has_values(alloc, words.as_slice(), kind, behind, values)?,
+            "{kind}"
+        );
     }
     Ok(())
 }

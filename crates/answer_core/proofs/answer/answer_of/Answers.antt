@@ -21,5 +21,8 @@ returns-clause-counted g c =
 
 pub returns-clause-fits : goal.returns-clause-fits
 returns-clause-fits g c = record {
-  spilled = fits-by _ (g.met.K.Kinds.lawful c.args.kinds.now) _ _ _ c.in_ok-shapes.ensures.made.given_is c.in_ok-values.ensures.made.spilled_is;
-  legacy = fits-by _ (g.met.K.Kinds.lawful c.args.kinds.now) _ _ _ c.in_ok-shapes.ensures.made.imported_is c.in_ok-values.ensures.made.legacy_is }
+  spilled_is = c.in_ok-values.ensures.rectangles.spilled_is;
+  legacy_is = c.in_ok-values.ensures.rectangles.legacy_is;
+  spilled_fits = fits-by _ (g.met.K.Kinds.lawful c.args.kinds.now) _ _ _ c.in_ok-shapes.ensures.made.given_is c.in_ok-values.ensures.made.spilled_is;
+  legacy_fits = fits-by _ (g.met.K.Kinds.lawful c.args.kinds.now) _ _ _ c.in_ok-shapes.ensures.made.imported_is c.in_ok-values.ensures.made.legacy_is;
+}
