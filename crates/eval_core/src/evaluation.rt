@@ -7,6 +7,7 @@ ghost use Rattle.eval_core.specs.Own.{setting};
 use crate::evaluator::Evaluator;
 use crate::leaf::leaf_found;
 use crate::own::own_found;
+use crate::room::try_room;
 use book_core::{Book, Reads};
 use call_core::{Function, Steps};
 use grid_core::{broadcast, broadcast_unary};
@@ -98,6 +99,7 @@ fn binary_found<K: Kinds, B: Reads<L>, L>(
 ) -> Result<Found, Memory>
     ensures { IfOk result (λ found. found ≡ passed_found (setting (K.table evaluator.now.kinds.now) (B.contents evaluator.now.book.now) evaluator.now.limit cell) (binary operator) (left ∷ right ∷ [])) }
 {
+    try_room(alloc, &left, &right)?;
     let left = left.into_value(alloc, evaluator.book, cell, steps)?;
     let right = right.into_value(alloc, evaluator.book, cell, steps)?;
     let value = broadcast(alloc, operator, left, right)?;
