@@ -19,5 +19,3 @@ mod program;
 mod reading;
 mod refusal;
 mod status;
-#[cfg(test)]
-mod tests;

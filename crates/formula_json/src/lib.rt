@@ -13,5 +13,3 @@ mod kind;
 mod leaf;
 mod node;
 mod tag;
-#[cfg(test)]
-mod tests;

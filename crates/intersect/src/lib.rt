@@ -25,5 +25,3 @@ mod numbered_drop;
 mod range_text;
 mod rule;
 mod stripped;
-#[cfg(test)]
-mod tests;

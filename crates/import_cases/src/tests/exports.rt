@@ -3,10 +3,10 @@ ghost use Rattle.tree_core.specs.Count.{size_of};
 ghost use Rattle.tree_core.specs.Formula.{tree_of};
 ghost use Rattle.intersect.specs.Export.{ComesBack};
 
-use crate::{
+use formula_words::formula;
+use intersect::{
     ImportRule, export_counted, exported, imported, remove_redundant_implicit_intersection,
 };
-use formula_words::formula;
 use kind_table::{Asks, CrateKinds};
 use pair_kinds::PairKinds;
 use std::alloc::Global;

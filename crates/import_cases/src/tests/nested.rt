@@ -2,8 +2,8 @@ ghost use Rattle.std.specs.Prelude.{◌≤◌, IfOk};
 ghost use Rattle.tree_core.specs.Count.{size_of};
 ghost use Rattle.tree_core.specs.Formula.{tree_of};
 
-use crate::{ImportRule, export_counted, import_counted};
 use formula_words::formula;
+use intersect::{ImportRule, export_counted, import_counted};
 use kind_table::{CrateKinds, StaticResult, function_named};
 use shape_core::analyse_all;
 use std::alloc::Global;

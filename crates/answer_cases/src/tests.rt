@@ -1,4 +1,4 @@
-use crate::{Status, answer_formula, run};
+use answer_core::{Status, answer_formula, run};
 use book_core::MemoryBook;
 use device_core::{MemorySink, MemorySource, SureSink, SureSource};
 use intersect::ImportRule;

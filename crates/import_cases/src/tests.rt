@@ -1,5 +1,8 @@
-use super::*;
 use formula_words::formula;
+use intersect::{
+    ImportRule, add_implicit_intersection, exports_come_back, import_counted, import_is_a_function,
+    import_settles, imported, is_range_reference,
+};
 use kind_table::CrateKinds;
 use std::alloc::Global;
 use std::process::Abort;

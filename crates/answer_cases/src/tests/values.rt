@@ -1,5 +1,5 @@
 use super::owned;
-use crate::{Status, run};
+use answer_core::{Status, run};
 use device_core::{SureSink, SureSource};
 use std::test::Fail;
 
