@@ -4,8 +4,8 @@
 usage: measure.py PROGRAM FOLDER [NAME ..]
 
 Writes, for each request, its bytes, the instructions that callgrind counts in all, and those of reading the text into JSON values, of
-reading these into nodes, of all imports (the first one and those that export tries) and of writing, each with all that it calls; the
-greatest memory in use, and the seconds of one run. The requests are those of the folder, or the ones that are named.
+reading these into nodes, of all imports (the first one and those that export tries), of finding both shapes, of both values and of
+writing, each with all that it calls; the greatest memory in use, and the seconds of one run. The requests are those of the folder, or the ones that are named.
 """
 
 import re
@@ -17,7 +17,9 @@ from pathlib import Path
 PARTS = {
     "values": "serde_json::de::read_members",
     "nodes": "formula_json::node::read_node",
-    "imports": "intersect::visit::import_of",
+    "imports": "intersect::import::import_of",
+    "shapes": "shape_core::analysis::run_static_analysis_on_node",
+    "evaluation": "eval_core::evaluator::Evaluator::formula_value",
     "writing": "print_core::answer::answer_line",
 }
 
@@ -64,14 +66,14 @@ def peak(program, request):
 def main():
     program, folder, *names = sys.argv[1:]
     requests = [Path(folder) / f"{name}.json" for name in names] or sorted(Path(folder).glob("*.json"))
-    print("| Request | bytes | instructions, millions | text to values | values to nodes | imports | writing | peak KiB | seconds |")
-    print("|---|---|---|---|---|---|---|---|---|")
+    print("| Request | bytes | instructions, millions | text to values | values to nodes | imports | shapes | both values | writing | peak KiB | seconds |")
+    print("|---|---|---|---|---|---|---|---|---|---|---|")
     with tempfile.TemporaryDirectory() as work:
         for request in requests:
             counts = callgrind(program, request, work)
             memory, seconds = peak(program, request)
             million = lambda part: f"{counts[part] / 1e6:.1f}" if part in counts else "?"
-            cells = [million(part) for part in ("all", "values", "nodes", "imports", "writing")]
+            cells = [million(part) for part in ("all", "values", "nodes", "imports", "shapes", "evaluation", "writing")]
             print(f"| `{request.stem}` | {request.stat().st_size} | " + " | ".join(cells) + f" | {memory} | {seconds:.2f} |", flush=True)
 
 

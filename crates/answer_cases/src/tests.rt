@@ -1,12 +1,11 @@
-use answer_core::{Status, answer_formula, run};
+use answer_core::{Answer, Status, answer_formula, run};
 use book_core::MemoryBook;
 use device_core::{MemorySink, MemorySource, SureSink, SureSource};
 use intersect::ImportRule;
 use kind_table::{CrateKinds, StaticResult};
-use rectangle_core::Grid;
 use std::alloc::{AllocError, Global};
 use std::test::Fail;
-use tree_core::{ArrayNode, CellReferenceIndex, Node, Plain, Steps, Text};
+use tree_core::{ArrayNode, CellReferenceIndex, Memory, Node, Plain, Steps, Text};
 
 mod formulas;
 mod kinds;
@@ -43,83 +42,131 @@ fn owned(alloc: Global, words: &[&str]) -> Result<Vec<String>, AllocError> {
     Ok(all)
 }
 
+/// Words and bytes, what is written, and the status as a code.
+static RUN_CASES: [(&[&str], &str, &str, u8); 11] = [
+    (&["answer"], COLUMN, COLUMN_ANSWER, 0),
+    (&["answer"], RUNS, RUNS_ANSWER, 0),
+    (&["answer"], "", "bad json\n", 3),
+    (&["answer"], UNEVEN, "bad request at node 2\n", 4),
+    (&["answer"], OFF_THE_SHEET, "bad request at cell\n", 4),
+    (&["answer"], UNKNOWN, "bad request at node 0\n", 4),
+    (&[], COLUMN, USAGE, 2),
+    (&["answer", "now"], COLUMN, USAGE, 2),
+    (&["cell", "0", "1"], COLUMN, USAGE, 2),
+    (&["generate", "01"], COLUMN, USAGE, 2),
+    (&["--help"], COLUMN, USAGE, 2),
+];
+
 #[test]
 fn words_and_bytes_have_their_lines(rt: HostRuntime) -> Result<(), Fail> {
-    let alloc = rt.alloc();
-    for (words, bytes, written, code) in [
-        (["answer"].as_slice(), COLUMN, COLUMN_ANSWER, 0),
-        (["answer"].as_slice(), RUNS, RUNS_ANSWER, 0),
-        (["answer"].as_slice(), "", "bad json\n", 3),
-        (["answer"].as_slice(), UNEVEN, "bad request at node 2\n", 4),
-        (
-            ["answer"].as_slice(),
-            OFF_THE_SHEET,
-            "bad request at cell\n",
-            4,
-        ),
-        (["answer"].as_slice(), UNKNOWN, "bad request at node 0\n", 4),
-        ([].as_slice(), COLUMN, USAGE, 2),
-        (["answer", "now"].as_slice(), COLUMN, USAGE, 2),
-        (["cell", "0", "1"].as_slice(), COLUMN, USAGE, 2),
-        (["generate", "01"].as_slice(), COLUMN, USAGE, 2),
-        (["--help"].as_slice(), COLUMN, USAGE, 2),
-    ] {
-        let words = owned(alloc, words)?;
-        let mut source = SureSource::new(bytes.as_bytes().to_vec(alloc)?);
-        let mut sink = SureSink::new(alloc, 1000)?;
-        let status = run(alloc, words.as_slice(), &mut source, &mut sink);
-        assert_eq!(rt; status.code(), code, "status for {words:?}");
-        assert_eq!(rt; sink.written(), written.as_bytes());
+    for &(words, bytes, written, code) in &RUN_CASES {
+        assert!(rt; runs(rt.alloc(), words, bytes, written, code)?, "{words:?}");
     }
     Ok(())
 }
 
+/// Whether a run with some words over some bytes writes a text and ends with the status of a code.
+fn runs(
+    alloc: Global,
+    words: &[&str],
+    bytes: &str,
+    written: &str,
+    code: u8,
+) -> Result<bool, Fail> {
+    let words = owned(alloc, words)?;
+    let mut source = SureSource::new(bytes.as_bytes().to_vec(alloc)?);
+    let mut sink = SureSink::new(alloc, 1000)?;
+    let ended = run(alloc, words.as_slice(), &mut source, &mut sink);
+    Ok(ended.code() == code && sink.written() == written.as_bytes())
+}
+
+/// Whether a request is answered with a line.
+fn answers(alloc: Global, request: &str, line: &str) -> Result<bool, Fail> {
+    runs(alloc, &["answer"], request, line, 0)
+}
+
+/// Whether a request is answered with a line that ends so.
+fn answers_in(alloc: Global, request: &str, end: &str) -> Result<bool, Fail> {
+    let words = owned(alloc, &["answer"])?;
+    let mut source = SureSource::new(request.as_bytes().to_vec(alloc)?);
+    let mut sink = SureSink::new(alloc, 1000)?;
+    let ended = run(alloc, words.as_slice(), &mut source, &mut sink);
+    Ok(ended == Status::Done && sink.written().ends_with(end.as_bytes()))
+}
+
+/// A run over devices that fail: the bytes, the calls of the source and of the sink that fail, what is written, and the status.
+/// Calls are numbered from 1, so a device that fails at call 0 never does.
+static FAULTS: [(&str, usize, usize, &str, Status); 3] = [
+    (COLUMN, 0, 2, "{\"exported", Status::WriteFault),
+    (COLUMN, 2, 0, "read fault\n", Status::ReadFault),
+    ("", 0, 1, "", Status::WriteFault),
+];
+
 #[test]
 fn faults_show_in_the_status(rt: HostRuntime) -> Result<(), Fail> {
-    let alloc = rt.alloc();
-    let words = owned(alloc, &["answer"])?;
-    // Calls are numbered from 1, so a device that fails at call 0 never does.
-    for (bytes, source_fails, sink_fails, written, status) in [
-        (COLUMN, 0, 2, "{\"exported", Status::WriteFault),
-        (COLUMN, 2, 0, "read fault\n", Status::ReadFault),
-        ("", 0, 1, "", Status::WriteFault),
-    ] {
-        let failing = [source_fails].to_vec(alloc)?;
-        let mut source = MemorySource::new(bytes.as_bytes().to_vec(alloc)?, 50, failing);
-        let mut sink = MemorySink::new(alloc, 1000, 10, [sink_fails].to_vec(alloc)?)?;
-        assert_eq!(rt;
-            run(alloc, words.as_slice(), &mut source, &mut sink),
-            status
-        );
-        assert_eq!(rt; sink.written(), written.as_bytes());
+    for &(bytes, source_fails, sink_fails, written, status) in &FAULTS {
+        assert!(rt; fails(rt.alloc(), bytes, source_fails, sink_fails, written, status)?);
     }
     Ok(())
+}
+
+fn fails(
+    alloc: Global,
+    bytes: &str,
+    source_fails: usize,
+    sink_fails: usize,
+    written: &str,
+    status: Status,
+) -> Result<bool, Fail> {
+    let words = owned(alloc, &["answer"])?;
+    let mut source = failing_source(alloc, bytes, source_fails)?;
+    let failing = [sink_fails].to_vec(alloc)?;
+    let mut sink = MemorySink::new(alloc, 1000, 10, failing)?;
+    let ended = run(alloc, words.as_slice(), &mut source, &mut sink);
+    Ok(ended == status && sink.written() == written.as_bytes())
+}
+
+fn failing_source(alloc: Global, bytes: &str, fails: usize) -> Result<MemorySource, Fail> {
+    let bytes = bytes.as_bytes().to_vec(alloc)?;
+    let failing = [fails].to_vec(alloc)?;
+    Ok(MemorySource::new(bytes, 50, failing))
 }
 
 #[test]
 fn no_input_is_too_long_but_past_the_limit(rt: HostRuntime) -> Result<(), Fail> {
     let alloc = rt.alloc();
-    let words = owned(alloc, &["answer"])?;
-    for (length, written, status) in [
-        (16777216, "bad json\n", Status::BadJson),
-        (16777217, "too long\n", Status::TooLong),
-    ] {
-        let mut source = SureSource::new(vec![in alloc; b' '; length]?);
-        let mut sink = SureSink::new(alloc, 100)?;
-        assert_eq!(rt;
-            run(alloc, words.as_slice(), &mut source, &mut sink),
-            status
-        );
-        assert_eq!(rt; sink.written(), written.as_bytes());
-    }
+    assert!(rt; refuses_blanks(alloc, 16777216, "bad json\n", Status::BadJson)?);
+    assert!(rt; refuses_blanks(alloc, 16777217, "too long\n", Status::TooLong)?);
     Ok(())
+}
+
+fn refuses_blanks(
+    alloc: Global,
+    length: usize,
+    written: &str,
+    status: Status,
+) -> Result<bool, Fail> {
+    let words = owned(alloc, &["answer"])?;
+    let mut source = SureSource::new(vec![in alloc; b' '; length]?);
+    let mut sink = SureSink::new(alloc, 100)?;
+    let ended = run(alloc, words.as_slice(), &mut source, &mut sink);
+    Ok(ended == status && sink.written() == written.as_bytes())
 }
 
 #[test]
 fn a_number_is_its_own_answer(rt: HostRuntime) -> Result<(), Fail> {
     let alloc = rt.alloc();
-    let mut book = MemoryBook::new(alloc);
-    book.add_sheet(Text::from_text(alloc, "Sheet1")?)?;
+    let answer = answer_of_seven(alloc)?;
+    assert!(rt; answer.imported == Node::NumberKind(7));
+    assert!(rt; answer.exported == Node::NumberKind(7));
+    assert_eq!(rt; answer.imported_shape, StaticResult::Scalar);
+    assert!(rt; answer.spilled.get(0, 0) == Some(&ArrayNode::Number(7)));
+    Ok(())
+}
+
+/// The answer to the number of seven millionths, by the other rule and under the least limit.
+fn answer_of_seven(alloc: Global) -> Result<Answer, Fail> {
+    let book = book_of_one_sheet(alloc)?;
     let cell = CellReferenceIndex {
         sheet: 0,
         row: 1,
@@ -130,10 +177,11 @@ fn a_number_is_its_own_answer(rt: HostRuntime) -> Result<(), Fail> {
     let rule = ImportRule::EveryScalar;
     let kinds = &CrateKinds;
     let answered = answer_formula(alloc, kinds, &book, rule, 1, cell, &number, &mut steps);
-    let answer = answered.expect(&rt, "an answer");
-    assert_eq!(rt; answer.imported, Node::NumberKind(7));
-    assert_eq!(rt; answer.exported, Node::NumberKind(7));
-    assert_eq!(rt; answer.imported_shape, StaticResult::Scalar);
-    assert!(rt; answer.spilled == Grid::of_one(alloc, ArrayNode::Number(7))?);
-    Ok(())
+    answered.map_err(|_| "no answer".into())
+}
+
+fn book_of_one_sheet(alloc: Global) -> Result<MemoryBook, Memory> {
+    let mut book = MemoryBook::new(alloc);
+    book.add_sheet(Text::from_text(alloc, "Sheet1")?)?;
+    Ok(book)
 }

@@ -1,16 +1,20 @@
--- The value and the shape of one formula, as they are found, fit.
-use Rattle.std.specs.Prelude.{◌≡◌, List}
-use Rattle.value_core.specs.declared.array.ArrayNode.{ArrayNode}
+-- The values and the shapes of an answer, as they are found, fit.
 use Rattle.rectangle_core.specs.Rectangle.{height, width}
-use Rattle.kind_table.specs.declared.static_result.StaticResult.{StaticResult}
 use Rattle.kind_table.specs.Fit.{SizeFits}
 use Rattle.kind_table.specs.Table.{IsLawful}
 use Rattle.tree_core.specs.Tree.{Tree}
-use Rattle.shape_core.specs.Shape.{shape}
-use Rattle.eval_core.specs.Meaning.{mean}
 use Rattle.eval_core.specs.Own.{Setting}
 use Rattle.fit_laws.proofs.Law.{means-fit}
+use Rattle.answer_core.specs.Parts.{AreShapes, AreValues}
+use Rattle.answer_core.specs.declared.answer.Shapes.{Shapes}
+use Rattle.answer_core.specs.declared.answer.Values.{Values}
 
-pub fits-by : (here : Setting) → IsLawful here.table → (t : Tree) (s : StaticResult) (rows : List (List ArrayNode))
-    → s ≡ shape here.table t → rows ≡ mean here t → SizeFits s (height rows) (width rows)
-fits-by here lawful t s rows shape-is value-is = rw (shape-is, value-is) (means-fit here lawful t)
+pub spilled-fits : (here : Setting) (given imported : Tree) (shapes : Shapes) (values : Values)
+    → AreValues here given imported values → AreShapes here.table given imported shapes → IsLawful here.table
+    → SizeFits shapes.given (height values.spilled) (width values.spilled)
+spilled-fits here given imported shapes values are fitting lawful = rw (fitting.given_is, are.spilled_is) (means-fit here lawful given)
+
+pub legacy-fits : (here : Setting) (given imported : Tree) (shapes : Shapes) (values : Values)
+    → AreValues here given imported values → AreShapes here.table given imported shapes → IsLawful here.table
+    → SizeFits shapes.imported (height values.legacy) (width values.legacy)
+legacy-fits here given imported shapes values are fitting lawful = rw (fitting.imported_is, are.legacy_is) (means-fit here lawful imported)

@@ -5,9 +5,8 @@ use intersect::{
 };
 use kind_table::CrateKinds;
 use std::alloc::Global;
-use std::process::Abort;
 use std::test::Fail;
-use tree_core::{Plain, Steps};
+use tree_core::{Node, Plain, Steps};
 
 mod exports;
 mod nested;
@@ -81,15 +80,15 @@ static TEXTS: [(&str, bool); 12] = [
 fn formulas_are_imported(rt: HostRuntime) -> Result<(), Fail> {
     let alloc = rt.alloc();
     for &(given, wanted) in &WANTED {
-        imports(&rt, alloc, ImportRule::AsCrate, true, given, wanted)?;
-        imports_in_place(&rt, alloc, true, given, wanted)?;
+        assert!(rt; imports(alloc, ImportRule::AsCrate, true, given, wanted)?, "{given}");
+        assert!(rt; imports_in_place(alloc, true, given, wanted)?, "{given} in place");
     }
     for &(given, wanted) in &NOT_WANTED {
-        imports(&rt, alloc, ImportRule::AsCrate, false, given, wanted)?;
-        imports_in_place(&rt, alloc, false, given, wanted)?;
+        assert!(rt; imports(alloc, ImportRule::AsCrate, false, given, wanted)?, "{given}");
+        assert!(rt; imports_in_place(alloc, false, given, wanted)?, "{given} in place");
     }
     for &(given, wanted) in &EVERY {
-        imports(&rt, alloc, ImportRule::EveryScalar, true, given, wanted)?;
+        assert!(rt; imports(alloc, ImportRule::EveryScalar, true, given, wanted)?, "{given}");
     }
     import_is_a_function();
     import_settles();
@@ -97,39 +96,65 @@ fn formulas_are_imported(rt: HostRuntime) -> Result<(), Fail> {
     Ok(())
 }
 
+/// Whether a formula is imported as another one, as a new formula and counted in its place, and stays as it is by the first.
 fn imports(
-    rt: &impl Abort,
     alloc: Global,
     rule: ImportRule,
     add: bool,
     given: &str,
     wanted: &str,
-) -> Result<(), Fail> {
-    let mut node = formula(alloc, given)?;
-    let wanted = formula(alloc, wanted)?;
-    let mut steps = Steps::new(Plain);
-    assert_eq!(rt;
-        imported(alloc, &node, add, &CrateKinds, rule, &mut steps)?,
-        wanted,
-        "{given}"
-    );
-    assert_eq!(rt; node, formula(alloc, given)?, "{given} itself");
-    import_counted(alloc, &mut node, add, &CrateKinds, rule, &mut steps)?;
-    assert_eq!(rt; node, wanted, "{given} counted");
-    Ok(())
+) -> Result<bool, Fail> {
+    Ok(imports_as_new(alloc, rule, add, given, wanted)?
+        && imports_counted(alloc, rule, add, given, wanted)?)
 }
 
-fn imports_in_place(
-    rt: &impl Abort,
+fn imports_as_new(
     alloc: Global,
+    rule: ImportRule,
     add: bool,
     given: &str,
     wanted: &str,
-) -> Result<(), Fail> {
+) -> Result<bool, Fail> {
+    let node = formula(alloc, given)?;
+    let mut steps = Steps::new(Plain);
+    let import = imported(alloc, &node, add, &CrateKinds, rule, &mut steps)?;
+    let right = is(alloc, &import, wanted)?;
+    drop(import);
+    let stays = is(alloc, &node, given)?;
+    drop(node);
+    Ok(right && stays)
+}
+
+fn imports_counted(
+    alloc: Global,
+    rule: ImportRule,
+    add: bool,
+    given: &str,
+    wanted: &str,
+) -> Result<bool, Fail> {
+    let mut node = formula(alloc, given)?;
+    let mut steps = Steps::new(Plain);
+    import_counted(alloc, &mut node, add, &CrateKinds, rule, &mut steps)?;
+    let right = is(alloc, &node, wanted)?;
+    drop(node);
+    Ok(right)
+}
+
+/// Whether a formula is imported as another one, in its place and by the crate's rule.
+fn imports_in_place(alloc: Global, add: bool, given: &str, wanted: &str) -> Result<bool, Fail> {
     let mut node = formula(alloc, given)?;
     add_implicit_intersection(alloc, &mut node, add, &CrateKinds)?;
-    assert_eq!(rt; node, formula(alloc, wanted)?, "{given} in place");
-    Ok(())
+    let right = is(alloc, &node, wanted)?;
+    drop(node);
+    Ok(right)
+}
+
+/// Whether a formula is that of some words.
+fn is(alloc: Global, node: &Node, words: &str) -> Result<bool, Fail> {
+    let wanted = formula(alloc, words)?;
+    let same = *node == wanted;
+    drop(wanted);
+    Ok(same)
 }
 
 #[test]

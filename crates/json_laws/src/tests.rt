@@ -4,7 +4,7 @@ use json::Writer;
 use serde_json::Value;
 use std::alloc::Global;
 use std::test::Fail;
-use tree_core::{Function, Node, Nodes, OpSum, Operator, Text, Texts};
+use tree_core::{Function, Memory, Node, Nodes, OpSum, Operator, Text, Texts};
 use value_json::FormError;
 
 /// Forms of formulas, at least one for each tag. Each is what is written of the formula that it is read as.
@@ -73,47 +73,80 @@ fn written(alloc: Global, node: &Node) -> Result<Vec<u8>, Fail> {
 
 #[test]
 fn each_form_is_read_and_written(rt: HostRuntime) -> Result<(), Fail> {
-    let alloc = rt.alloc();
     for &form in &FORMS {
-        let value = Value::from_str(alloc, form)?;
-        let node = read_node(alloc, &value)?;
-        assert!(rt;
-            written(alloc, &node)?.as_slice() == form.as_bytes(),
-            "{form}"
-        );
+        assert!(rt; is_rewritten(rt.alloc(), form, form)?, "{form}");
     }
     for &(form, other) in &OTHER_FORMS {
-        let value = Value::from_str(alloc, form)?;
-        let node = read_node(alloc, &value)?;
-        assert!(rt;
-            written(alloc, &node)?.as_slice() == other.as_bytes(),
-            "{form}"
-        );
+        assert!(rt; is_rewritten(rt.alloc(), form, other)?, "{form}");
     }
     Ok(())
 }
 
-/// A lambda of one parameter over a sum of a reference and a call, made by hand.
+/// Whether a form is read as a formula that is written as another form.
+fn is_rewritten(alloc: Global, form: &str, other: &str) -> Result<bool, Fail> {
+    let value = Value::from_str(alloc, form)?;
+    let node = read_node(alloc, &value)?;
+    drop(value);
+    let bytes = written(alloc, &node)?;
+    drop(node);
+    Ok(bytes.as_slice() == other.as_bytes())
+}
+
+/// A lambda of one parameter over the difference of a reference and a call, made by hand.
 fn lambda(alloc: Global) -> Result<Node, Fail> {
-    let reference = Node::ReferenceKind {
+    let difference = difference(alloc)?;
+    let lambda = Node::lambda(alloc, parameters(alloc)?, difference)?;
+    Ok(lambda)
+}
+
+fn parameters(alloc: Global) -> Result<Texts, Memory> {
+    let mut parameters = Texts::new(alloc);
+    let parameter = Text::from_text(alloc, "x")?;
+    if let Err(_) = parameters.push(parameter) {
+        return Err(Memory);
+    }
+    Ok(parameters)
+}
+
+fn difference(alloc: Global) -> Result<Node, Memory> {
+    let reference = reference(alloc)?;
+    let call = call(alloc)?;
+    let difference = Node::binary(alloc, Operator::Sum(OpSum::Minus), reference, call)?;
+    Ok(difference)
+}
+
+fn reference(alloc: Global) -> Result<Node, Memory> {
+    Ok(Node::ReferenceKind {
         sheet_name: Some(Text::from_text(alloc, "S")?),
         sheet_index: 1,
         absolute_row: true,
         absolute_column: false,
         row: 3,
         column: -4,
-    };
+    })
+}
+
+fn call(alloc: Global) -> Result<Node, Memory> {
     let mut args = Nodes::new(alloc);
     args.add(Node::intersection(alloc, true, Node::NumberKind(5))?)?;
-    let call = Node::call(Function::Take, args);
-    let sum = Node::binary(alloc, Operator::Sum(OpSum::Minus), reference, call)?;
-    let mut parameters = Texts::new(alloc);
-    let parameter = Text::from_text(alloc, "x")?;
-    if let Err(_) = parameters.push(parameter) {
-        return Err(FormError::Memory.into());
-    }
-    let lambda = Node::lambda(alloc, parameters, sum)?;
-    Ok(lambda)
+    Ok(Node::call(Function::Take, args))
+}
+
+fn is_written_as(alloc: Global, form: &str) -> Result<bool, Fail> {
+    let node = lambda(alloc)?;
+    let bytes = written(alloc, &node)?;
+    drop(node);
+    Ok(bytes.as_slice() == form.as_bytes())
+}
+
+fn is_read_from(alloc: Global, form: &str) -> Result<bool, Fail> {
+    let value = Value::from_str(alloc, form)?;
+    let read = read_node(alloc, &value)?;
+    drop(value);
+    let node = lambda(alloc)?;
+    let same = read == node;
+    drop(read);
+    Ok(same)
 }
 
 #[test]
@@ -121,10 +154,8 @@ fn a_form_is_that_of_its_formula(rt: HostRuntime) -> Result<(), Fail> {
     let alloc = rt.alloc();
     let form =
         r#"["lambda",["x"],["sub",["ref",1,"S",true,false,3,-4],["call","TAKE",["at",true,["num",5]]]]]"#;
-    let node = lambda(alloc)?;
-    assert_eq!(rt; written(alloc, &node)?.as_slice(), form.as_bytes());
-    let value = Value::from_str(alloc, form)?;
-    assert_eq!(rt; read_node(alloc, &value)?, node);
+    assert!(rt; is_written_as(alloc, form)?);
+    assert!(rt; is_read_from(alloc, form)?);
     written_formula_reads_back();
     Ok(())
 }

@@ -1,6 +1,4 @@
-use super::owned;
-use answer_core::{Status, run};
-use device_core::{SureSink, SureSource};
+use super::answers;
 use std::test::Fail;
 
 /// Formulas by the rules: each as it is given, its export, its shape, its import, the shape of that, and both values, which are one.
@@ -127,7 +125,6 @@ static FORMULAS: [(&str, &str, &str, &str, &str, &str); 13] = [
 #[test]
 fn formulas_are_imported_and_exported_to_the_byte(rt: HostRuntime) -> Result<(), Fail> {
     let alloc = rt.alloc();
-    let words = owned(alloc, &["answer"])?;
     for &(formula, exported, given_shape, imported, imported_shape, value) in &FORMULAS {
         let request = format!(in alloc;
             "{{\"sheets\":[\"Sheet1\"],\"cells\":[],\"cell\":[0,3,3],\"formula\":{formula}}}"
@@ -135,11 +132,7 @@ fn formulas_are_imported_and_exported_to_the_byte(rt: HostRuntime) -> Result<(),
         let line = format!(in alloc;
             "{{\"exported\":{exported},\"given_shape\":\"{given_shape}\",\"imported\":{imported},\"imported_shape\":\"{imported_shape}\",\"legacy\":{value},\"spilled\":{value}}}\n"
         )?;
-        let mut source = SureSource::new(request.as_bytes().to_vec(alloc)?);
-        let mut sink = SureSink::new(alloc, 1000)?;
-        let status = run(alloc, words.as_slice(), &mut source, &mut sink);
-        assert_eq!(rt; status, Status::Done);
-        assert_eq!(rt; sink.written(), line.as_bytes());
+        assert!(rt; answers(alloc, request.as_str(), line.as_str())?, "{formula}");
     }
     Ok(())
 }

@@ -1,6 +1,4 @@
-use super::owned;
-use answer_core::{Status, run};
-use device_core::{SureSink, SureSource};
+use super::answers_in;
 use std::alloc::Global;
 use std::test::Fail;
 
@@ -191,13 +189,8 @@ static KINDS: [(&str, &str, [&str; 8]); 13] = [
 
 #[test]
 fn thirteen_kinds_take_eight_forms(rt: HostRuntime) -> Result<(), Fail> {
-    let alloc = rt.alloc();
-    let words = owned(alloc, &["answer"])?;
     for (kind, behind, values) in &KINDS {
-        assert!(rt;
-            has_values(alloc, words.as_slice(), kind, behind, values)?,
-            "{kind}"
-        );
+        assert!(rt; has_values(rt.alloc(), kind, behind, values)?, "{kind}");
     }
     Ok(())
 }
@@ -205,23 +198,27 @@ fn thirteen_kinds_take_eight_forms(rt: HostRuntime) -> Result<(), Fail> {
 /// Whether a call of a kind has a value for each form of its first argument.
 fn has_values(
     alloc: Global,
-    words: &[String],
     kind: &str,
     behind: &str,
     values: &[&str; 8],
 ) -> Result<bool, Fail> {
     let mut has_all = true;
     for (form, rows) in FORMS.iter().zip(values) {
-        let request = format!(in alloc;
-            "{{\"sheets\":[\"Sheet1\"],\"cells\":[[0,1,1,3000000],[0,2,1,\"4\"]],\"cell\":[0,1,6],\"formula\":[\"call\",\"{kind}\",{form}{behind}]}}"
-        )?;
-        let end = format!(in alloc; "\"spilled\":[[{rows}]]}}\n")?;
-        let mut source = SureSource::new(request.as_bytes().to_vec(alloc)?);
-        let mut sink = SureSink::new(alloc, 1000)?;
-        let status = run(alloc, words, &mut source, &mut sink);
-        if status != Status::Done || !sink.written().ends_with(end.as_bytes()) {
-            has_all = false;
-        }
+        has_all = has_all && has_value(alloc, kind, form, behind, rows)?;
     }
     Ok(has_all)
+}
+
+fn has_value(
+    alloc: Global,
+    kind: &str,
+    form: &str,
+    behind: &str,
+    rows: &str,
+) -> Result<bool, Fail> {
+    let request = format!(in alloc;
+        "{{\"sheets\":[\"Sheet1\"],\"cells\":[[0,1,1,3000000],[0,2,1,\"4\"]],\"cell\":[0,1,6],\"formula\":[\"call\",\"{kind}\",{form}{behind}]}}"
+    )?;
+    let end = format!(in alloc; "\"spilled\":[[{rows}]]}}\n")?;
+    answers_in(alloc, request.as_str(), end.as_str())
 }

@@ -1,6 +1,4 @@
-use super::owned;
-use answer_core::{Status, run};
-use device_core::{SureSink, SureSource};
+use super::answers_in;
 use std::test::Fail;
 
 /// A sheet of numbers, in which C1 is 3 and D1 is 6, and formulas in cells of it with their spilled and legacy values.
@@ -147,17 +145,12 @@ static VALUES: [(&str, &str, &str, &str); 22] = [
 #[test]
 fn formulas_have_their_values(rt: HostRuntime) -> Result<(), Fail> {
     let alloc = rt.alloc();
-    let words = owned(alloc, &["answer"])?;
     for &(cell, formula, spilled, legacy) in &VALUES {
         let request = format!(in alloc;
             "{{\"sheets\":[\"Sheet1\"],\"cells\":{NUMBERS},\"cell\":{cell},\"formula\":{formula}}}"
         )?;
         let end = format!(in alloc; "\"legacy\":{legacy},\"spilled\":{spilled}}}\n")?;
-        let mut source = SureSource::new(request.as_bytes().to_vec(alloc)?);
-        let mut sink = SureSink::new(alloc, 1000)?;
-        let status = run(alloc, words.as_slice(), &mut source, &mut sink);
-        assert_eq!(rt; status, Status::Done);
-        assert!(rt; sink.written().ends_with(end.as_bytes()), "{formula}");
+        assert!(rt; answers_in(alloc, request.as_str(), end.as_str())?, "{formula}");
     }
     Ok(())
 }

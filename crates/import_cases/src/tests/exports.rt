@@ -3,6 +3,7 @@ ghost use Rattle.tree_core.specs.Count.{size_of};
 ghost use Rattle.tree_core.specs.Formula.{tree_of};
 ghost use Rattle.intersect.specs.Export.{ComesBack};
 
+use super::is;
 use formula_words::formula;
 use intersect::{
     ImportRule, export_counted, exported, imported, remove_redundant_implicit_intersection,
@@ -112,7 +113,7 @@ fn one_of_two_exports_is_given(rt: HostRuntime) -> Result<(), Fail> {
     Ok(())
 }
 
-/// Whether a formula is exported as one of two, as a new formula and in its place.
+/// Whether a formula is exported as one of two, as a new formula and counted in its place.
 fn exports<K: Asks<Plain>>(
     alloc: Global,
     kinds: &K,
@@ -121,15 +122,41 @@ fn exports<K: Asks<Plain>>(
     given: &str,
     wanted: [&str; 2],
 ) -> Result<bool, Fail> {
+    Ok(exports_as_new(alloc, kinds, rule, add, given, wanted)?
+        && exports_counted(alloc, kinds, rule, add, given, wanted)?)
+}
+
+fn exports_as_new<K: Asks<Plain>>(
+    alloc: Global,
+    kinds: &K,
+    rule: ImportRule,
+    add: bool,
+    given: &str,
+    wanted: [&str; 2],
+) -> Result<bool, Fail> {
+    let node = own_import(alloc, kinds, rule, add, given)?;
     let mut steps = Steps::new(Plain);
-    let mut node = own_import(alloc, kinds, rule, add, given)?;
-    let new = exported(alloc, &node, add, kinds, rule, &mut steps)?;
-    let right = is_one_of(alloc, &new, wanted)?;
-    drop(new);
-    export_counted(alloc, &mut node, add, kinds, rule, &mut steps)?;
-    let in_place = is_one_of(alloc, &node, wanted)?;
+    let export = exported(alloc, &node, add, kinds, rule, &mut steps)?;
     drop(node);
-    Ok(right && in_place)
+    let right = is_one_of(alloc, &export, wanted)?;
+    drop(export);
+    Ok(right)
+}
+
+fn exports_counted<K: Asks<Plain>>(
+    alloc: Global,
+    kinds: &K,
+    rule: ImportRule,
+    add: bool,
+    given: &str,
+    wanted: [&str; 2],
+) -> Result<bool, Fail> {
+    let mut node = own_import(alloc, kinds, rule, add, given)?;
+    let mut steps = Steps::new(Plain);
+    export_counted(alloc, &mut node, add, kinds, rule, &mut steps)?;
+    let right = is_one_of(alloc, &node, wanted)?;
+    drop(node);
+    Ok(right)
 }
 
 fn exports_in_place(alloc: Global, add: bool, given: &str, wanted: &str) -> Result<bool, Fail> {
@@ -166,11 +193,4 @@ fn own_import<K: Asks<Plain>>(
 
 fn is_one_of(alloc: Global, node: &Node, wanted: [&str; 2]) -> Result<bool, Fail> {
     Ok(is(alloc, node, wanted[0])? || is(alloc, node, wanted[1])?)
-}
-
-fn is(alloc: Global, node: &Node, words: &str) -> Result<bool, Fail> {
-    let wanted = formula(alloc, words)?;
-    let same = *node == wanted;
-    drop(wanted);
-    Ok(same)
 }

@@ -1,6 +1,6 @@
 use Rattle.tree_core.specs.Count.{calls_of}
 use Rattle.tree_core.specs.Formula.{tree_of}
-use Rattle.answer_core.proofs.Fits.{fits-by}
+use Rattle.answer_core.proofs.Fits.{legacy-fits, spilled-fits}
 use Rattle.answer_core.proofs.Questions.{imported-calls, asked-shapes}
 use Rattle.answer_core.proofs.answer.answer_of.Goals as goal
 
@@ -23,6 +23,6 @@ pub returns-clause-fits : goal.returns-clause-fits
 returns-clause-fits g c = record {
   spilled_is = c.in_ok-values.ensures.rectangles.spilled_is;
   legacy_is = c.in_ok-values.ensures.rectangles.legacy_is;
-  spilled_fits = fits-by _ (g.met.K.Kinds.lawful c.args.kinds.now) _ _ _ c.in_ok-shapes.ensures.made.given_is c.in_ok-values.ensures.made.spilled_is;
-  legacy_fits = fits-by _ (g.met.K.Kinds.lawful c.args.kinds.now) _ _ _ c.in_ok-shapes.ensures.made.imported_is c.in_ok-values.ensures.made.legacy_is;
+  spilled_fits = spilled-fits _ _ _ _ _ c.in_ok-values.ensures.made c.in_ok-shapes.ensures.made (g.met.K.Kinds.lawful c.args.kinds.now);
+  legacy_fits = legacy-fits _ _ _ _ _ c.in_ok-values.ensures.made c.in_ok-shapes.ensures.made (g.met.K.Kinds.lawful c.args.kinds.now);
 }
