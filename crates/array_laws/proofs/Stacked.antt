@@ -49,8 +49,6 @@ same-greater c = omega arith
 
 stacked : (r s c : ℕ) (f g : ℕ → ℕ → ArrayNode) → 1 ≤ r → 1 ≤ s → below (rectangle r c f) (rectangle s c g) ≡ rectangle (r + s) c (stacked_element r f g)
 stacked r s c f g h k =
-    let upper : List (List ArrayNode) = rectangle r c f in
-    let lower : List (List ArrayNode) = rectangle s c g in
     let element : ℕ → ℕ → ArrayNode = λ i j. picked (rectangle r c f ∷ rectangle s c g ∷ []) not_available (place.below (size_of (rectangle r c f) ∷ size_of (rectangle s c g) ∷ []) 0 i j) in
     rectangle-sized (height (rectangle r c f) + (height (rectangle s c g) + 0)) (r + s) (max (width (rectangle r c f)) (max (width (rectangle s c g)) 0)) c element
     (longer r s _ _ (height-rectangle r c f) (height-rectangle s c g))

@@ -20,7 +20,6 @@ use Rattle.array_laws.proofs.Elements.{at-rectangle, rectangle-same, rectangle-s
 
 pub transposed-rectangle : (rows columns : ℕ) (f : ℕ → ℕ → ArrayNode) → 1 ≤ rows → transposed (rectangle rows columns f) ≡ rectangle columns rows (λ i j. f j i)
 transposed-rectangle rows columns f h =
-    let given = rectangle rows columns f in
     let element : ℕ → ℕ → ArrayNode = λ i j. or_blank (element_at (rectangle rows columns f) j i) in
     rectangle-sized (width (rectangle rows columns f)) columns (height (rectangle rows columns f)) rows element (width-rectangle rows columns f h) (height-rectangle rows columns f)
     ∙ rectangle-same columns rows element (λ i j. f j i) (λ i j k l. at-rectangle rows columns f j i l k)
