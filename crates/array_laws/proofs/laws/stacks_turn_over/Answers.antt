@@ -1,4 +1,4 @@
-use Rattle.array_laws.proofs.Stacked.{stacks-turn}
+use Rattle.array_laws.proofs.Sides.{stacks-turn}
 use Rattle.array_laws.proofs.laws.stacks_turn_over.Goals as goal
 
 pub returns : goal.returns
