@@ -1,0 +1,4 @@
+pub mod Elements
+pub mod Turned
+pub mod Stacked
+pub mod Sides

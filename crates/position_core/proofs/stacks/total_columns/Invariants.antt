@@ -1,0 +1,9 @@
+use Rattle.std.proofs.Common.{◌≡◌, ◌+◌, ◌<◌, ◌^◌, drop}
+use Rattle.position_core.specs.Sized.{total_columns}
+use Rattle.position_core.proofs.stacks.total_columns.Given as goal
+
+abbrev pub invariant-loop-size : goal.invariant-loop-size
+invariant-loop-size l = record {
+  sum : l.total + total_columns (drop l.size-index l.sizes) ≡ total_columns l.sizes;
+  fits : l.total < 2 ^ 64;
+}

@@ -1,0 +1,7 @@
+pub mod Axis
+pub mod Limit
+pub mod Sized
+pub mod Check
+pub mod Position
+pub mod Place
+pub mod Sequence
