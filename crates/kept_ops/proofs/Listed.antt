@@ -6,13 +6,13 @@
 --   scan-more       of what passes, a whole line more
 --   strip-whole     one line of elements, as a rectangle
 --   first_wrong-more   the first error is not at this place
-use Rattle.std.proofs.Common.{◌≡◌, ℕ, suc, ◌+◌, ◌<◌, Bool, true, false, cond, ◌&&◌, if◌then◌else◌, Option, Some, None, List, [], ◌∷◌, ◌++◌, length, get_or, map, drop, refl, sym, ap, ap₂, ◌∙◌, arith, append_assoc, append-nil, add-one, drop-cons}
+use Rattle.std.proofs.Common.{◌≡◌, ℕ, ◌+◌, ◌<◌, Bool, true, false, cond, ◌&&◌, if◌then◌else◌, List, [], ◌∷◌, ◌++◌, length, get_or, map, drop, refl, sym, ap, ap₂, ◌∙◌, arith, append_assoc, append-nil, add-one, drop-cons}
 use Rattle.std.proofs.lemmas.List.{get_or-map, length-map, map-append}
 use Rattle.std.proofs.lemmas.List.Concat.{flat_map-append}
 use Rattle.std.proofs.lemmas.List.Elements.{filter-append}
 use Rattle.std.proofs.lemmas.List.Folds.{list_all-append}
 use Rattle.std.proofs.lemmas.List.FromFn.{map-range_with_len_more, filter_of_map_range_with_len_more, fill_by_all}
-use Rattle.std.specs.List.{filter, flat_map, list_all, range_with_len}
+use Rattle.std.specs.List.{filter, flat_map, list_all}
 use Rattle.value_core.specs.declared.array.ArrayNode.{ArrayNode}
 use Rattle.value_core.specs.declared.array.ArrayNode.TheVariants.{Empty}
 use Rattle.rectangle_core.specs.Rectangle.{rectangle, tabulate}

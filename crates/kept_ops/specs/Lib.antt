@@ -7,3 +7,4 @@ pub mod Unique
 pub mod Filter
 pub mod Flatten
 pub mod Trim
+pub mod Transposed

@@ -48,6 +48,7 @@ fn lines_are_kept_by_their_keys(rt: HostRuntime) -> Result<(), Fail> {
         let answer = unique(alloc, CELL, &grid, by_column, exactly_once)?;
         assert!(rt; is_answer(alloc, &answer, wanted)?, "of {rows}");
     }
+    what_is_unique_stays();
     Ok(())
 }
 
@@ -106,6 +107,7 @@ fn elements_are_laid_in_one_line(rt: HostRuntime) -> Result<(), Fail> {
         let answer = flatten(alloc, CELL, &grid, ignore, by_column, as_column)?;
         assert!(rt; is_answer(alloc, &answer, wanted)?, "of {rows}");
     }
+    columns_are_the_rows_of_the_transposed();
     Ok(())
 }
 

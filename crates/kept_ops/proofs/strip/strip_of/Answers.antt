@@ -1,4 +1,4 @@
-use Rattle.std.proofs.Common.{ℕ, List, if◌then◌else◌, map, get_or, sym, ap, ◌∙◌, Bor}
+use Rattle.std.proofs.Common.{List, if◌then◌else◌, map, get_or, sym, ap, ◌∙◌, Bor}
 use Rattle.std.proofs.lemmas.List.{length-map}
 use Rattle.value_core.specs.declared.array.ArrayNode.{ArrayNode}
 use Rattle.value_core.specs.declared.array.ArrayNode.TheVariants.{Empty}
