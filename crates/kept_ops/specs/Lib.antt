@@ -1,0 +1,10 @@
+pub mod Lines
+pub mod Picks
+pub mod Part
+pub mod Strip
+pub mod Mode
+pub mod Unique
+pub mod Filter
+pub mod Flatten
+pub mod Trim
+pub mod Transposed
