@@ -66,13 +66,7 @@ fn words_and_bytes_have_their_lines(rt: HostRuntime) -> Result<(), Fail> {
 }
 
 /// Whether a run with some words over some bytes writes a text and ends with the status of a code.
-fn runs(
-    alloc: Global,
-    words: &[&str],
-    bytes: &str,
-    written: &str,
-    code: u8,
-) -> Result<bool, Fail> {
+fn runs(alloc: Global, words: &[&str], bytes: &str, written: &str, code: u8) -> Result<bool, Fail> {
     let words = owned(alloc, words)?;
     let mut source = SureSource::new(bytes.as_bytes().to_vec(alloc)?);
     let mut sink = SureSink::new(alloc, 1000)?;

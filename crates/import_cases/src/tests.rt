@@ -80,15 +80,30 @@ static TEXTS: [(&str, bool); 12] = [
 fn formulas_are_imported(rt: HostRuntime) -> Result<(), Fail> {
     let alloc = rt.alloc();
     for &(given, wanted) in &WANTED {
-        assert!(rt; imports(alloc, ImportRule::AsCrate, true, given, wanted)?, "{given}");
-        assert!(rt; imports_in_place(alloc, true, given, wanted)?, "{given} in place");
+        assert!(rt;
+            imports(alloc, ImportRule::AsCrate, true, given, wanted)?,
+            "{given}"
+        );
+        assert!(rt;
+            imports_in_place(alloc, true, given, wanted)?,
+            "{given} in place"
+        );
     }
     for &(given, wanted) in &NOT_WANTED {
-        assert!(rt; imports(alloc, ImportRule::AsCrate, false, given, wanted)?, "{given}");
-        assert!(rt; imports_in_place(alloc, false, given, wanted)?, "{given} in place");
+        assert!(rt;
+            imports(alloc, ImportRule::AsCrate, false, given, wanted)?,
+            "{given}"
+        );
+        assert!(rt;
+            imports_in_place(alloc, false, given, wanted)?,
+            "{given} in place"
+        );
     }
     for &(given, wanted) in &EVERY {
-        assert!(rt; imports(alloc, ImportRule::EveryScalar, true, given, wanted)?, "{given}");
+        assert!(rt;
+            imports(alloc, ImportRule::EveryScalar, true, given, wanted)?,
+            "{given}"
+        );
     }
     import_is_a_function();
     import_settles();
@@ -104,8 +119,10 @@ fn imports(
     given: &str,
     wanted: &str,
 ) -> Result<bool, Fail> {
-    Ok(imports_as_new(alloc, rule, add, given, wanted)?
-        && imports_counted(alloc, rule, add, given, wanted)?)
+    Ok(
+        imports_as_new(alloc, rule, add, given, wanted)?
+            && imports_counted(alloc, rule, add, given, wanted)?,
+    )
 }
 
 fn imports_as_new(

@@ -132,7 +132,10 @@ fn formulas_are_imported_and_exported_to_the_byte(rt: HostRuntime) -> Result<(),
         let line = format!(in alloc;
             "{{\"exported\":{exported},\"given_shape\":\"{given_shape}\",\"imported\":{imported},\"imported_shape\":\"{imported_shape}\",\"legacy\":{value},\"spilled\":{value}}}\n"
         )?;
-        assert!(rt; answers(alloc, request.as_str(), line.as_str())?, "{formula}");
+        assert!(rt;
+            answers(alloc, request.as_str(), line.as_str())?,
+            "{formula}"
+        );
     }
     Ok(())
 }

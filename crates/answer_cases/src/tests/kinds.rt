@@ -196,12 +196,7 @@ fn thirteen_kinds_take_eight_forms(rt: HostRuntime) -> Result<(), Fail> {
 }
 
 /// Whether a call of a kind has a value for each form of its first argument.
-fn has_values(
-    alloc: Global,
-    kind: &str,
-    behind: &str,
-    values: &[&str; 8],
-) -> Result<bool, Fail> {
+fn has_values(alloc: Global, kind: &str, behind: &str, values: &[&str; 8]) -> Result<bool, Fail> {
     let mut has_all = true;
     for (form, rows) in FORMS.iter().zip(values) {
         has_all = has_all && has_value(alloc, kind, form, behind, rows)?;

@@ -150,7 +150,10 @@ fn formulas_have_their_values(rt: HostRuntime) -> Result<(), Fail> {
             "{{\"sheets\":[\"Sheet1\"],\"cells\":{NUMBERS},\"cell\":{cell},\"formula\":{formula}}}"
         )?;
         let end = format!(in alloc; "\"legacy\":{legacy},\"spilled\":{spilled}}}\n")?;
-        assert!(rt; answers_in(alloc, request.as_str(), end.as_str())?, "{formula}");
+        assert!(rt;
+            answers_in(alloc, request.as_str(), end.as_str())?,
+            "{formula}"
+        );
     }
     Ok(())
 }

@@ -122,8 +122,10 @@ fn exports<K: Asks<Plain>>(
     given: &str,
     wanted: [&str; 2],
 ) -> Result<bool, Fail> {
-    Ok(exports_as_new(alloc, kinds, rule, add, given, wanted)?
-        && exports_counted(alloc, kinds, rule, add, given, wanted)?)
+    Ok(
+        exports_as_new(alloc, kinds, rule, add, given, wanted)?
+            && exports_counted(alloc, kinds, rule, add, given, wanted)?,
+    )
 }
 
 fn exports_as_new<K: Asks<Plain>>(
