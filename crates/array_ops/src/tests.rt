@@ -68,34 +68,44 @@ static STACKS: [(&str, &str, &str, &str); 3] = [
 #[test]
 fn stacks_have_the_greatest_size(rt: HostRuntime) -> Result<(), Fail> {
     let alloc = rt.alloc();
-    for &(first, second, beside, below) in &STACKS {
-        let mut arrays = Vec::new(alloc);
-        arrays.push(grid_of_digits(alloc, first)?.ok_or("no array")?)?;
-        arrays.push(grid_of_digits(alloc, second)?.ok_or("no array")?)?;
-        let beside = grid_of_digits(alloc, beside)?.ok_or("no array")?;
-        let below = grid_of_digits(alloc, below)?.ok_or("no array")?;
-        assert!(rt;
-            hstack(alloc, arrays.as_slice())? == beside,
-            "{first} {second}"
-        );
-        assert!(rt;
-            vstack(alloc, arrays.as_slice())? == below,
-            "{first} {second}"
-        );
+    for &(first, second, wanted_beside, wanted_below) in &STACKS {
+        let (beside, below) = stacks(alloc, first, second)?;
+        assert!(rt; is(alloc, &beside, wanted_beside)?, "{first} {second}");
+        assert!(rt; is(alloc, &below, wanted_below)?, "{first} {second}");
     }
     Ok(())
 }
 
+/// Two arrays side by side, and below each other.
+fn stacks(alloc: Global, first: &str, second: &str) -> Result<(Grid, Grid), Fail> {
+    let mut arrays = Vec::new(alloc);
+    arrays.push(grid_of_digits(alloc, first)?.ok_or("no array")?)?;
+    arrays.push(grid_of_digits(alloc, second)?.ok_or("no array")?)?;
+    let beside = hstack(alloc, arrays.as_slice())?;
+    let below = vstack(alloc, arrays.as_slice())?;
+    Ok((beside, below))
+}
+
 #[test]
 fn rows_become_columns(rt: HostRuntime) -> Result<(), Fail> {
-    let alloc = rt.alloc();
-    let array = grid_of_digits(alloc, "123/456")?.ok_or("no array")?;
-    let wanted = grid_of_digits(alloc, "14/25/36")?.ok_or("no array")?;
-    match transpose_array(alloc, array) {
-        Ok(answer) => assert!(rt; answer == wanted),
-        Err(_) => return Err("no memory".into()),
-    }
+    let answer = transposed(rt.alloc(), "123/456")?;
+    assert!(rt; is(rt.alloc(), &answer, "14/25/36")?);
     Ok(())
+}
+
+fn transposed(alloc: Global, text: &str) -> Result<Grid, Fail> {
+    let array = grid_of_digits(alloc, text)?.ok_or("no array")?;
+    match transpose_array(alloc, array) {
+        Ok(answer) => Ok(answer),
+        Err(_back) => Err("no memory".into()),
+    }
+}
+
+fn is(alloc: Global, grid: &Grid, text: &str) -> Result<bool, Memory> {
+    match grid_of_digits(alloc, text)? {
+        Some(wanted) => Ok(*grid == wanted),
+        None => Ok(false),
+    }
 }
 
 /// Rows, columns, starts and steps in whole numbers, and the answers.
@@ -120,22 +130,21 @@ fn sequences_answer_what_stands_in_the_rows(rt: HostRuntime) -> Result<(), Fail>
         let answer = sequence(alloc, cell(), rows, columns, start, step, 1000000)?;
         assert!(rt; answer == result_of(alloc, wanted)?, "{rows} {columns}");
     }
-    let start = millionths(-9223372036854);
-    match sequence(
-        alloc,
-        cell(),
-        1,
-        3,
-        start,
-        millionths(9223372036854),
-        1000000,
-    )? {
-        CalcResult::Array(grid) => {
-            assert!(rt; matches!(grid.get(0, 2), Some(ArrayNode::Number(9223372036854000000))));
-        }
-        _ => return Err("no array".into()),
-    }
+    assert!(rt; ends_in_the_greatest_whole_number(alloc)?);
     Ok(())
+}
+
+/// Whether so large a step is exact where it is no number itself.
+fn ends_in_the_greatest_whole_number(alloc: Global) -> Result<bool, Memory> {
+    let start = millionths(-9223372036854);
+    let step = millionths(9223372036854);
+    match sequence(alloc, cell(), 1, 3, start, step, 1000000)? {
+        CalcResult::Array(grid) => Ok(matches!(
+            grid.get(0, 2),
+            Some(ArrayNode::Number(9223372036854000000))
+        )),
+        _other => Ok(false),
+    }
 }
 
 fn millionths(number: i64) -> i64 {
