@@ -111,7 +111,7 @@ fn formulas_are_imported(rt: HostRuntime) -> Result<(), Fail> {
     Ok(())
 }
 
-/// Whether a formula is imported as another one, as a new formula and counted in its place, and stays as it is by the first.
+/// Whether a formula is imported as another one, as a new formula and counted in its place.
 fn imports(
     alloc: Global,
     rule: ImportRule,
@@ -132,14 +132,18 @@ fn imports_as_new(
     given: &str,
     wanted: &str,
 ) -> Result<bool, Fail> {
+    let import = imported_as_new(alloc, rule, add, given)?;
+    let right = is(alloc, &import, wanted)?;
+    drop(import);
+    Ok(right)
+}
+
+fn imported_as_new(alloc: Global, rule: ImportRule, add: bool, given: &str) -> Result<Node, Fail> {
     let node = formula(alloc, given)?;
     let mut steps = Steps::new(Plain);
     let import = imported(alloc, &node, add, &CrateKinds, rule, &mut steps)?;
-    let right = is(alloc, &import, wanted)?;
-    drop(import);
-    let stays = is(alloc, &node, given)?;
     drop(node);
-    Ok(right && stays)
+    Ok(import)
 }
 
 fn imports_counted(

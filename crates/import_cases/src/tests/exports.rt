@@ -114,7 +114,7 @@ fn one_of_two_exports_is_given(rt: HostRuntime) -> Result<(), Fail> {
 }
 
 /// Whether a formula is exported as one of two, as a new formula and counted in its place.
-fn exports<K: Asks<Plain>>(
+pub(super) fn exports<K: Asks<Plain>>(
     alloc: Global,
     kinds: &K,
     rule: ImportRule,
@@ -178,12 +178,12 @@ fn own_import<K: Asks<Plain>>(
     words: &str,
 ) -> Result<Node, Fail>
     ensures own_import { IfOk result (λ node. ComesBack rule (K.table kinds.now) add (tree_of node) (tree_of node)) }
-    ensures size { IfOk result (λ node. size_of (tree_of node) ≤ 100) }
+    ensures size { IfOk result (λ node. size_of (tree_of node) ≤ 200) }
 {
     let node = formula(alloc, words)?;
     let mut steps = Steps::new(Plain);
     let import = imported(alloc, &node, add, kinds, rule, &mut steps)?;
-    let own = import == node && import.has_at_most(100);
+    let own = import == node && import.has_at_most(200);
     drop(node);
     if own {
         Ok(import)

@@ -1,12 +1,9 @@
-ghost use Rattle.std.specs.Prelude.{◌≤◌, IfOk};
-ghost use Rattle.tree_core.specs.Count.{size_of};
-ghost use Rattle.tree_core.specs.Formula.{tree_of};
-
+use super::exports::exports;
 use formula_words::formula;
-use intersect::{ImportRule, export_counted, import_counted};
+use intersect::{ImportRule, import_counted};
 use kind_table::{CrateKinds, StaticResult, function_named};
 use shape_core::analyse_all;
-use std::alloc::Global;
+use std::alloc::{AllocError, Global};
 use std::test::Fail;
 use tree_core::{Node, Nodes, Plain, Steps};
 
@@ -42,16 +39,18 @@ fn imports_nested(alloc: Global, rule: ImportRule) -> Result<bool, Fail> {
 
 /// Whether the import of the nested calls is exported as they are given.
 fn exports_nested(alloc: Global, rule: ImportRule) -> Result<bool, Fail> {
-    let mut node = nested(alloc, "A1:A3")?;
-    if !node.has_at_most(101) {
-        return Ok(false);
+    let given = nested_words(alloc, "A1:A3 ~")?;
+    let wanted = nested_words(alloc, "A1:A3")?;
+    let both = [wanted.as_str(), wanted.as_str()];
+    exports(alloc, &CrateKinds, rule, true, given.as_str(), both)
+}
+
+fn nested_words(alloc: Global, words: &str) -> Result<String, AllocError> {
+    let mut nested = String::from_str(alloc, words)?;
+    for _ in 0..100 {
+        nested.push_str(" ABS/1")?;
     }
-    let mut steps = Steps::new(Plain);
-    import_counted(alloc, &mut node, true, &CrateKinds, rule, &mut steps)?;
-    export_counted(alloc, &mut node, true, &CrateKinds, rule, &mut steps)?;
-    let right = is_nested(alloc, &node, "A1:A3")?;
-    drop(node);
-    Ok(right)
+    Ok(nested)
 }
 
 fn is_nested(alloc: Global, node: &Node, words: &str) -> Result<bool, Fail> {
