@@ -8,7 +8,9 @@ use std::test::Fail;
 use tree_core::{ArrayNode, CellReferenceIndex, Memory, Node, Plain, Steps, Text};
 
 mod formulas;
+mod functions;
 mod kinds;
+mod references;
 mod values;
 
 const COLUMN: &str =

@@ -3,7 +3,7 @@ use Rattle.rectangle_core.specs.Rectangle.{height, width}
 use Rattle.kind_table.specs.Fit.{SizeFits}
 use Rattle.kind_table.specs.Table.{IsLawful}
 use Rattle.tree_core.specs.Tree.{Tree}
-use Rattle.eval_core.specs.Own.{Setting}
+use Rattle.eval_core.specs.Setting.{Setting}
 use Rattle.fit_laws.proofs.Law.{means-fit}
 use Rattle.answer_core.specs.Parts.{AreShapes, AreValues}
 use Rattle.answer_core.specs.declared.answer.Shapes.{Shapes}

@@ -19,7 +19,7 @@ use Rattle.intersect.specs.ImportOf.{import_of}
 use Rattle.intersect.specs.Imported.{Imported}
 use Rattle.intersect.specs.Exported.{Exported}
 use Rattle.eval_core.specs.Meaning.{mean}
-use Rattle.eval_core.specs.Own.{Setting}
+use Rattle.eval_core.specs.Setting.{Setting}
 use Rattle.eval_core.specs.declared.fault.Fault.{Fault}
 use Rattle.eval_core.specs.declared.fault.Fault.TheVariants.{BadRequest, Memory}
 use Rattle.validity_core.specs.declared.place.Place.{Place}

@@ -16,7 +16,7 @@ use Rattle.intersect.specs.ImportOf.{import_of}
 use Rattle.intersect.specs.Imported.{Imported}
 use Rattle.intersect.specs.Exported.{Exported}
 use Rattle.eval_core.specs.Meaning.{mean}
-use Rattle.eval_core.specs.Own.{Setting}
+use Rattle.eval_core.specs.Setting.{Setting}
 use Rattle.answer_core.specs.declared.answer.Formulas.{Formulas}
 use Rattle.answer_core.specs.declared.answer.Shapes.{Shapes}
 use Rattle.answer_core.specs.declared.answer.Values.{Values}

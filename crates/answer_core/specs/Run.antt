@@ -26,7 +26,7 @@ use Rattle.intersect.specs.declared.rule.ImportRule.TheVariants.{AsCrate}
 use Rattle.book_core.specs.Held.{contents_of}
 use Rattle.validity_core.specs.Place.{bad_place}
 use Rattle.validity_core.specs.declared.place.Place.{Place}
-use Rattle.eval_core.specs.Own.{Setting, setting}
+use Rattle.eval_core.specs.Setting.{Setting, setting}
 use Rattle.answer_core.specs.declared.reading.TheConstants.{CELL_LIMIT}
 use Rattle.tree_core.specs.Formula.{tree_of}
 use Rattle.request_core.specs.Request.{Asked, request_of}

@@ -2,7 +2,7 @@ ghost use Rattle.std.specs.Prelude.{◌*◌, ◌+◌, ◌<◌, ◌≤◌, ◌^�
 ghost use Rattle.tree_core.specs.Count.{calls_of, size_of};
 ghost use Rattle.tree_core.specs.Formula.{tree_of};
 ghost use Rattle.validity_core.specs.Place.{bad_place};
-ghost use Rattle.eval_core.specs.Own.{setting};
+ghost use Rattle.eval_core.specs.Setting.{setting};
 ghost use Rattle.answer_core.specs.Answers.{Answers, FitTheirShapes, Judges, most_questions};
 ghost use Rattle.answer_core.specs.Parts.{AreFormulas, AreRectangles, AreShapes, AreValues, formula_questions};
 
@@ -16,8 +16,8 @@ use shape_core::run_static_analysis_on_node;
 use std::alloc::Global;
 use tree_core::{CellReferenceIndex, Memory, Node, Plain, Steps};
 
-/// The answer to a formula in a cell of a book, by a table of kinds and a rule of import; `limit`, from 1 to 16777216, is the
-/// greatest number of cells of an array that a function makes. The formula stays as it is, and has fewer than 2^63 nodes, since
+/// The answer to a formula in a cell of a book, by a table of kinds and a rule of import; `limit`, at most 16777216, is
+/// the greatest number of cells of an array that a function makes. The formula stays as it is, and has fewer than 2^63 nodes, since
 /// import may double them.
 ///
 /// Each of the two values has at most as many rows and columns as its shape says.
@@ -35,6 +35,7 @@ pub fn answer_formula<K: Asks<L>, B: Reads<Plain>, L>(
     steps: &mut Steps<L>,
 ) -> Result<Answer, Fault>
     requires countable { 2 * size_of (tree_of node.now) < 2 ^ 64 }
+    requires limited { limit ≤ 16777216 }
     ensures answers { IfOk result (Answers rule (setting (K.table kinds.now) (B.contents book.now) limit cell) (tree_of node.now)) }
     ensures fits { IfOk result FitTheirShapes }
     ensures judged { Judges result (bad_place (K.table kinds.now) (length (B.contents book.now).sheets) cell (tree_of node.now)) }
@@ -61,6 +62,7 @@ fn answer_of<K: Asks<L>, B: Reads<Plain>, L>(
     steps: &mut Steps<L>,
 ) -> Result<Answer, Memory>
     requires countable { 2 * size_of (tree_of node.now) < 2 ^ 64 }
+    requires limited { limit ≤ 16777216 }
     ensures answers { IfOk result (Answers rule (setting (K.table kinds.now) (B.contents book.now) limit cell) (tree_of node.now)) }
     ensures fits { IfOk result FitTheirShapes }
     ensures counted { steps.new ≤ steps.old + most_questions rule (K.table kinds.now) (tree_of node.now) }
@@ -139,6 +141,7 @@ fn values_of<K: Kinds, B: Reads<Plain>>(
     given: &Node,
     imported: &Node,
 ) -> Result<Values, Memory>
+    requires limited { limit ≤ 16777216 }
     ensures made { IfOk result (AreValues (setting (K.table kinds.now) (B.contents book.now) limit cell) (tree_of given.now) (tree_of imported.now)) }
     ensures rectangles { IfOk result AreRectangles }
 {

@@ -4,13 +4,13 @@
 
 pub use position_core::{
     Fitted, Numbers, Position, Reshape, Size, SizeLimit, check_array_limit, check_array_size,
-    position_in, reshaped_size, sequence_element,
+    checked, is_choice, position_in, reshaped_size, sequence_element,
 };
 pub use reshaping::{
     choose_columns, choose_rows, drop_rows_columns, expand, take, transpose_array, wrap_columns,
     wrap_rows,
 };
-pub use sequences::sequence;
+pub use sequences::{count_refused, sequence};
 pub use stacking::{hstack, vstack};
 
 mod answer;

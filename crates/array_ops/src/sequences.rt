@@ -1,10 +1,9 @@
 ghost use Rattle.std.specs.Prelude.{◌≡◌, ◌+◌, ◌*◌, ◌≤◌, IfOk, unsigned_abs};
-ghost use Rattle.position_core.specs.Check.{checked};
 ghost use Rattle.array_ops.specs.Sequence.{count_refused, sequence_answer, sequence_grid, sequence_refused};
 
 use call_core::{Plain, Steps};
 use grid_core::CalcResult;
-use position_core::{check_array_limit, sequence_element};
+use position_core::{checked, sequence_element};
 use rectangle_core::{Grid, View, grid_of};
 use std::alloc::Global;
 use value_core::{ArrayNode, CellReferenceIndex, Error, Memory};
@@ -55,7 +54,8 @@ fn sequence_refused(rows: i64, columns: i64, limit: usize) -> Option<Error>
     )
 }
 
-fn count_refused(count: i64) -> Option<Error>
+/// The error of a number of rows or columns: `#CALC!` for none and `#VALUE!` below.
+pub fn count_refused(count: i64) -> Option<Error>
     ensures { result ≡ count_refused count }
 {
     if count < 0 {
@@ -64,15 +64,6 @@ fn count_refused(count: i64) -> Option<Error>
         Some(Error::CALC)
     } else {
         None
-    }
-}
-
-fn checked(rows: usize, columns: usize, limit: usize) -> Option<Error>
-    ensures { result ≡ checked rows columns limit }
-{
-    match check_array_limit(rows, columns, limit) {
-        Some((error, _)) => Some(error),
-        None => None,
     }
 }
 

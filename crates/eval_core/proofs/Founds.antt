@@ -8,7 +8,7 @@ use Rattle.tree_core.specs.declared.node.Node.{Node}
 use Rattle.result_core.specs.Finding.{with_reference}
 use Rattle.result_core.specs.Intersection.{intersection_found}
 use Rattle.eval_core.specs.Meaning.{found_of, found_all}
-use Rattle.eval_core.specs.Own.{Setting}
+use Rattle.eval_core.specs.Setting.{Setting}
 
 pub found_all-forest : (here : Setting) (args : List Node) → found_all here (forest (map tree_of args)) ≡ map (λ arg. found_of here (tree_of arg)) args
 found_all-forest here [] = refl

@@ -1,3 +1,3 @@
-pub mod Own
+pub mod Setting
 pub mod Meaning
 pub mod Answer

@@ -1,5 +1,4 @@
 -- What a formula means: the value of each node, by the values of its children.
---   end_at           the cell where an end of a reference lies, unless it is off the sheet
 --   reference_found  a reference, range_ends a range, by where their ends lie
 --   literal_found    an array literal; one that is no rectangle, or larger than a sheet, is #VALUE!
 --   leaf_found       a node without children
@@ -9,7 +8,7 @@
 --   node_found       a bare node over what its children came to
 --   found_of         what a formula comes to, and found_all, each of some formulas
 --   mean             the value of a formula: a rectangle. A blank or missing one is one blank
-use Rattle.std.specs.Prelude.{ℕ, ℤ, pos, ◌+ℤ◌, int_le, Bool, ◌&&◌, if◌then◌else◌, List, [], ◌∷◌, map, Option, Some, None}
+use Rattle.std.specs.Prelude.{if◌then◌else◌, List, [], ◌∷◌, map, Option, Some, None}
 use Rattle.call_core.specs.declared.function.Function.{Function}
 use Rattle.call_core.specs.declared.function.Function.TheVariants.{Other}
 use Rattle.value_core.specs.declared.array.ArrayNode.{ArrayNode}
@@ -23,7 +22,7 @@ use Rattle.grid_core.specs.Broadcast.{broadcast}
 use Rattle.grid_core.specs.Combine.{combine_one}
 use Rattle.grid_core.specs.declared.calc_result.CalcResult.{CalcResult}
 use Rattle.grid_core.specs.declared.calc_result.CalcResult.TheVariants as calc
-use Rattle.tree_core.specs.declared.corner.Corner.{Corner}
+use Rattle.corner_core.specs.End.{end_at}
 use Rattle.tree_core.specs.Label.{Leaf, boolean, number, string, error, empty, reference, range, wrong_reference, wrong_range, array, defined_name, table_name, named_variable, parse_error, Passing, binary, unary, Closed, range_operator, Label, leaf, passing, spill, closed, call}
 use Rattle.tree_core.specs.Tree.{Tree, tree, Trees, none, more}
 use Rattle.result_core.specs.Finding.{wrong, of_value, value_found, with_reference}
@@ -32,16 +31,8 @@ use Rattle.result_core.specs.Span.{range_between, span_of}
 use Rattle.result_core.specs.declared.found.Found.{Found}
 use Rattle.result_core.specs.declared.found.Found.TheVariants.{Cell, Same}
 use Rattle.validity_core.specs.Good.{is_array}
-use Rattle.eval_core.specs.Own.{Setting, own_found}
-
-abbrev pub line_at : Bool → ℤ → ℤ → ℤ
-line_at absolute own line = if absolute then line else own +ℤ line
-
-abbrev pub on_sheet : ℕ → ℤ → ℤ → Option CellReferenceIndex
-on_sheet sheet row column = if int_le (pos 1) row && int_le row (pos 1048576) && int_le (pos 1) column && int_le column (pos 16384) then Some (record { sheet = sheet; row = row; column = column }) else None
-
-abbrev pub end_at : CellReferenceIndex → ℕ → Corner → Option CellReferenceIndex
-end_at cell sheet corner = on_sheet sheet (line_at corner.absolute_row cell.row corner.row) (line_at corner.absolute_column cell.column corner.column)
+use Rattle.eval_core.specs.Setting.{Setting}
+use Rattle.own_functions.specs.Own.{own_found}
 
 abbrev pub reference_found : CellReferenceIndex → Option CellReferenceIndex → Found
 reference_found cell (Some at) = Cell at

@@ -1,17 +1,18 @@
 ghost use Rattle.std.specs.Prelude.{◌≡◌, ◌++◌, [], ◌∷◌, IfOk, map};
 ghost use Rattle.tree_core.specs.Formula.{tree_of};
 ghost use Rattle.tree_core.specs.Label.{binary, unary};
+ghost use Rattle.eval_core.specs.Answer.{called};
 ghost use Rattle.eval_core.specs.Meaning.{call_found, found_of, passed_found, value_in};
-ghost use Rattle.eval_core.specs.Own.{setting};
+ghost use Rattle.eval_core.specs.Setting.{setting};
 
 use crate::evaluator::Evaluator;
 use crate::leaf::leaf_found;
-use crate::own::own_found;
 use crate::room::try_room;
 use book_core::{Book, Reads};
 use call_core::{Function, Steps};
-use grid_core::{broadcast, broadcast_unary};
+use grid_core::{CalcResult, broadcast, broadcast_unary};
 use kind_table::Kinds;
+use own_functions::{own_found, own_result};
 use rectangle_core::Value;
 use result_core::{Found, intersection_found, of_value, span_of, wrong};
 use std::alloc::Global;
@@ -167,4 +168,28 @@ fn values_in<K: Kinds, B: Reads<L>, L>(
         values.push(value)?;
     }
     Ok(values)
+}
+
+/// What a call of a kind with rules of its own answers over its arguments.
+pub(crate) fn called<K: Kinds, B: Reads<L>, L>(
+    evaluator: &Evaluator<K, B>,
+    alloc: Global,
+    kind: Function,
+    args: &Nodes,
+    cell: CellReferenceIndex,
+    steps: &mut Steps<L>,
+) -> Result<CalcResult, Memory>
+    ensures { IfOk result (λ made. made ≡ called (setting (K.table evaluator.now.kinds.now) (B.contents evaluator.now.book.now) evaluator.now.limit cell) kind args.now) }
+{
+    let args = found_all(evaluator, alloc, args, cell, steps)?;
+    let made = own_result(
+        alloc,
+        evaluator.book,
+        evaluator.limit,
+        cell,
+        kind,
+        args,
+        steps,
+    )?;
+    Ok(made)
 }

@@ -1,8 +1,8 @@
-ghost use Rattle.std.specs.Prelude.{◌≡◌, IfOk};
+ghost use Rattle.std.specs.Prelude.{◌≡◌, ◌≤◌, IfOk};
 ghost use Rattle.tree_core.specs.Formula.{tree_of};
 ghost use Rattle.eval_core.specs.Answer.{array_in, context_of, reference_of};
 ghost use Rattle.eval_core.specs.Meaning.{mean};
-ghost use Rattle.eval_core.specs.Own.{setting};
+ghost use Rattle.eval_core.specs.Setting.{setting};
 ghost use Rattle.operand_core.specs.Side.{side};
 ghost use Rattle.value_core.specs.declared.array.ArrayNode.TheVariants.{Empty};
 
@@ -18,12 +18,13 @@ use tree_core::Node;
 use value_core::{ArrayNode, CellReferenceIndex, Memory};
 
 /// What formulas are evaluated by: a table of kinds, a book, and the greatest number of cells of an array that a function
-/// makes, from 1 to 16777216.
+/// makes, at most 16777216.
 #[derive(Drop)]
 pub struct Evaluator<'a, K: Kinds, B: Book> {
     pub kinds: &'a K,
     pub book: &'a B,
     pub limit: usize,
+    pub ghost limited: { limit ≤ 16777216 },
 }
 
 impl<'a, K: Kinds, B: Book> Evaluator<'a, K, B> {

@@ -1,47 +1,15 @@
-ghost use Rattle.std.specs.Prelude.{◌≡◌, ◌+ℤ◌, ◌≤ℤ◌, IfOk, negsuc, pos};
+ghost use Rattle.std.specs.Prelude.{◌≡◌, IfOk};
 ghost use Rattle.tree_core.specs.View.{leaf_in};
-ghost use Rattle.eval_core.specs.Meaning.{end_at, leaf_found, line_at, literal_found, on_sheet, range_ends, reference_found};
+ghost use Rattle.eval_core.specs.Meaning.{leaf_found, literal_found, range_ends, reference_found};
 
+use corner_core::end_at;
 use grid_core::CalcResult;
 use rectangle_core::Grid;
 use result_core::{Found, range_between, wrong};
 use std::alloc::Global;
-use tree_core::{Corner, Leaf};
+use tree_core::Leaf;
 use validity_core::is_array;
-use value_core::{CellReferenceIndex, Error, LAST_COLUMN, LAST_ROW, Memory, Rows};
-
-/// A row or column of a reference, from that of the formula's cell where it isn't absolute.
-fn line_at(absolute: bool, own: i32, line: i32) -> i64
-    ensures { result ≡ line_at absolute own line }
-{
-    if absolute {
-        line as i64
-    } else {
-        own as i64 + line as i64
-    }
-}
-
-fn on_sheet(sheet: u32, row: i64, column: i64) -> Option<CellReferenceIndex>
-    ensures { result ≡ on_sheet sheet row column }
-{
-    if 1 <= row && row <= LAST_ROW as i64 && 1 <= column && column <= LAST_COLUMN as i64 {
-        Some(CellReferenceIndex {
-            sheet,
-            row: row as i32,
-            column: column as i32,
-        })
-    } else {
-        None
-    }
-}
-
-fn end_at(cell: CellReferenceIndex, sheet: u32, corner: Corner) -> Option<CellReferenceIndex>
-    ensures { result ≡ end_at cell sheet corner }
-{
-    let row = line_at(corner.absolute_row, cell.row, corner.row);
-    let column = line_at(corner.absolute_column, cell.column, corner.column);
-    on_sheet(sheet, row, column)
-}
+use value_core::{CellReferenceIndex, Error, Memory, Rows};
 
 fn reference_found(cell: CellReferenceIndex, end: Option<CellReferenceIndex>) -> Found
     ensures { result ≡ reference_found cell end }

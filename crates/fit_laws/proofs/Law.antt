@@ -3,19 +3,21 @@
 --   leaf_fits           nodes without children
 --   fits, all_fit       formulas
 --   means-fit           the law
-use Rattle.std.proofs.Common.{◌≡◌, ℕ, nat_le, ℤ, pos, negsuc, ◌≤ℤ◌, ◌+ℤ◌, ◌-ℤ◌, arith, Bool, true, false, ◌&&◌, cond, nat_eq, List, [], ◌∷◌, map, length, All, Option, Some, None, refl}
+use Rattle.std.proofs.Common.{◌≡◌, ℕ, nat_le, ℤ, pos, negsuc, ◌≤ℤ◌, ◌+ℤ◌, ◌-ℤ◌, arith, Bool, true, false, ◌&&◌, cond, nat_eq, List, [], ◌∷◌, map, length, All, Option, Some, None, Result, Ok, Err, refl}
 use Rattle.std.specs.Int.{int_min, int_max, int_gap}
 use Rattle.std.specs.List.{AllZip, list_all}
 use Rattle.std.proofs.lemmas.Bool.{leb-true}
 use Rattle.std.proofs.lemmas.Int.{ints, clamps}
 use Rattle.std.proofs.lemmas.List.Elements.{All-nil, All-cons}
 use Rattle.call_core.specs.declared.function.Function.{Function}
-use Rattle.call_core.specs.declared.function.Function.TheVariants.{Other}
+use Rattle.call_core.specs.declared.function.Function.TheVariants.{Unique, Filter, Take, Drop, Expand, Hstack, Vstack, Choosecols, Chooserows, Tocol, Torow, Transpose, Trimrange, Wrapcols, Wraprows, Sequence, Index, Offset, Choose, Row, Rows, Column, Columns, Indirect, Address, Areas, Formulatext, Arraytotext, Textsplit, Sort, Sortby, Let, Lambda, Map, Reduce, Scan, Byrow, Bycol, Makearray, Other}
 use Rattle.value_core.specs.declared.array.ArrayNode.{ArrayNode}
+use Rattle.value_core.specs.declared.error.Error.{Error}
 use Rattle.value_core.specs.declared.error.Error.TheVariants.{VALUE}
 use Rattle.value_core.specs.declared.position.CellReferenceIndex.{CellReferenceIndex}
 use Rattle.book_core.specs.Contents.{Contents, line_count}
 use Rattle.grid_core.specs.Combine.{combine_one}
+use Rattle.grid_core.specs.declared.calc_result.CalcResult.{CalcResult}
 use Rattle.grid_core.specs.declared.calc_result.CalcResult.TheVariants as calc
 use Rattle.kind_table.specs.declared.shown.Shown.{Shown}
 use Rattle.kind_table.specs.declared.static_result.StaticResult.{StaticResult}
@@ -34,9 +36,24 @@ use Rattle.result_core.specs.declared.found.Found.{Found}
 use Rattle.result_core.specs.Finding.{value_found, value_of, with_reference}
 use Rattle.result_core.specs.Intersection.{under_run}
 use Rattle.validity_core.specs.Good.{is_array, is_size}
-use Rattle.eval_core.specs.Meaning.{call_found, end_at, found_all, found_of, leaf_found, line_at, literal_found, node_found, on_sheet, range_ends, reference_found, value_in}
-use Rattle.eval_core.specs.Own.{Setting, own_found}
+use Rattle.corner_core.specs.End.{end_at, line_at}
+use Rattle.eval_core.specs.Meaning.{call_found, found_all, found_of, leaf_found, literal_found, node_found, range_ends, reference_found, value_in}
+use Rattle.eval_core.specs.Setting.{Setting}
+use Rattle.own_functions.specs.Own.{call_result, own_found}
+use Rattle.reference_functions.specs.Choosing.{choose_call}
+use Rattle.reference_functions.specs.Formula.{formula_text_call}
+use Rattle.reference_functions.specs.Numbering.{column_call, row_call}
+use Rattle.reference_functions.specs.Offsetting.{offset_call}
+use Rattle.reference_functions.specs.Sizing.{areas_call, columns_call, rows_call}
+use Rattle.text_functions.specs.Address.{address_call}
+use Rattle.text_functions.specs.ArrayToText.{array_to_text_call}
+use Rattle.reference_fits.specs.AnswersFit.{AnswerFits}
+use Rattle.reference_fits.specs.Known.{AreKnown}
+use Rattle.reference_fits.proofs.Law.{references-fit}
 use Rattle.fit_laws.specs.MeansFit.{MeansFit}
+use Rattle.fit_laws.proofs.Sheet.{on_sheet_column, on_sheet_inside, on_sheet_row}
+use Rattle.fit_laws.proofs.Shown.{all-shown}
+use Rattle.fit_laws.proofs.Texts.{address-fits, array-to-text-fits}
 use Rattle.fit_laws.proofs.Fit.{broadcast_fits, unary_fits, rectangle_fits, side_fits, single_fits, of_value_fits, unknown_fits, intersection_fits}
 
 -- ---- well-formed shapes
@@ -92,21 +109,6 @@ and-left false b h = h
 and-right : (a b : Bool) → (a && b) ≡ true → b ≡ true
 and-right true b h = h
 and-right false b h = cc
-
-record IsInside (row column : ℤ) : Type 0 where
-  row_above : pos 1 ≤ℤ row
-  row_below : row ≤ℤ pos 1048576
-  column_above : pos 1 ≤ℤ column
-  column_below : column ≤ℤ pos 16384
-
-on_sheet_inside : (sheet : ℕ) (row column : ℤ) (at : CellReferenceIndex) → on_sheet sheet row column ≡ Some at → IsInside row column
-on_sheet_inside sheet row column at h = record { row_above = grind (arith, ints); row_below = grind (arith, ints); column_above = grind (arith, ints); column_below = grind (arith, ints) }
-
-on_sheet_row : (sheet : ℕ) (row column : ℤ) (at : CellReferenceIndex) → on_sheet sheet row column ≡ Some at → at.row ≡ row
-on_sheet_row sheet row column at h = grind (arith, ints)
-
-on_sheet_column : (sheet : ℕ) (row column : ℤ) (at : CellReferenceIndex) → on_sheet sheet row column ≡ Some at → at.column ≡ column
-on_sheet_column sheet row column at h = grind (arith, ints)
 
 gap_is : (a b : ℤ) → a ≤ℤ b → pos (int_gap a b) ≡ b -ℤ a
 gap_is (pos a) (pos b) h = omega (arith, ints)
@@ -177,15 +179,59 @@ module _ (book : Contents) (cell : CellReferenceIndex) where
   leaf_fits (named_variable name id) = tt
   leaf_fits (parse_error formula message position) = tt
 
-  own_fits : (kind : Function) (shows : List Shown) (ss : List StaticResult) (limit : ℕ) (args : List Found) → Fits (own_row kind shows ss) (value_found book cell (own_found book limit cell kind args))
-  own_fits kind shows ss limit args = tt
+  answer_fits : (s : StaticResult) (answer : Result CalcResult Error) → AnswerFits book s answer → Fits s (value_of book (call_result cell answer))
+  answer_fits s (Ok made) fit = fit
+  answer_fits s (Err e) fit = tt
+
+  own_fits : (kind : Function) (shows : List Shown) (ss : List StaticResult) (limit : ℕ) (args : List Found) → AreKnown book cell shows ss args
+      → Fits (own_row kind shows ss) (value_found book cell (own_found book limit cell kind args))
+  own_fits Unique shows ss limit args known = unknown_fits book cell _
+  own_fits Filter shows ss limit args known = unknown_fits book cell _
+  own_fits Take shows ss limit args known = unknown_fits book cell _
+  own_fits Drop shows ss limit args known = unknown_fits book cell _
+  own_fits Expand shows ss limit args known = unknown_fits book cell _
+  own_fits Hstack shows ss limit args known = unknown_fits book cell _
+  own_fits Vstack shows ss limit args known = unknown_fits book cell _
+  own_fits Choosecols shows ss limit args known = unknown_fits book cell _
+  own_fits Chooserows shows ss limit args known = unknown_fits book cell _
+  own_fits Tocol shows ss limit args known = unknown_fits book cell _
+  own_fits Torow shows ss limit args known = unknown_fits book cell _
+  own_fits Transpose shows ss limit args known = unknown_fits book cell _
+  own_fits Trimrange shows ss limit args known = unknown_fits book cell _
+  own_fits Wrapcols shows ss limit args known = unknown_fits book cell _
+  own_fits Wraprows shows ss limit args known = unknown_fits book cell _
+  own_fits Sequence shows ss limit args known = unknown_fits book cell _
+  own_fits Index shows ss limit args known = unknown_fits book cell _
+  own_fits Offset shows ss limit args known = answer_fits (own_row Offset shows ss) (offset_call book cell args) (references-fit book cell Offset shows ss args known)
+  own_fits Choose shows ss limit args known = answer_fits (own_row Choose shows ss) (choose_call book cell args) (references-fit book cell Choose shows ss args known)
+  own_fits Row shows ss limit args known = answer_fits (own_row Row shows ss) (row_call cell args) (references-fit book cell Row shows ss args known)
+  own_fits Rows shows ss limit args known = answer_fits (own_row Rows shows ss) (rows_call args) (references-fit book cell Rows shows ss args known)
+  own_fits Column shows ss limit args known = answer_fits (own_row Column shows ss) (column_call cell args) (references-fit book cell Column shows ss args known)
+  own_fits Columns shows ss limit args known = answer_fits (own_row Columns shows ss) (columns_call args) (references-fit book cell Columns shows ss args known)
+  own_fits Indirect shows ss limit args known = unknown_fits book cell _
+  own_fits Address shows ss limit args known = answer_fits (own_row Address shows ss) (address_call book cell args) (address-fits book cell (own_row Address shows ss) args)
+  own_fits Areas shows ss limit args known = answer_fits (own_row Areas shows ss) (areas_call book cell args) (references-fit book cell Areas shows ss args known)
+  own_fits Formulatext shows ss limit args known = answer_fits (own_row Formulatext shows ss) (formula_text_call book args) (references-fit book cell Formulatext shows ss args known)
+  own_fits Arraytotext shows ss limit args known = answer_fits (own_row Arraytotext shows ss) (array_to_text_call book cell args) (array-to-text-fits book cell (own_row Arraytotext shows ss) args)
+  own_fits Textsplit shows ss limit args known = unknown_fits book cell _
+  own_fits Sort shows ss limit args known = tt
+  own_fits Sortby shows ss limit args known = tt
+  own_fits Let shows ss limit args known = tt
+  own_fits Lambda shows ss limit args known = tt
+  own_fits Map shows ss limit args known = tt
+  own_fits Reduce shows ss limit args known = tt
+  own_fits Scan shows ss limit args known = tt
+  own_fits Byrow shows ss limit args known = tt
+  own_fits Bycol shows ss limit args known = tt
+  own_fits Makearray shows ss limit args known = tt
+  own_fits (Other id) shows ss limit args known = tt
 
 module _ (here : Setting) (lawful : IsLawful here.table) where
-  call_fits : (kind : Function) (shows : List Shown) (ss : List StaticResult) (args : List Found) → All IsWellFormed ss → AllZip Fits ss (map (value_in here) args)
+  call_fits : (kind : Function) (shows : List Shown) (ss : List StaticResult) (args : List Found) → AreKnown here.book here.cell shows ss args
       → Fits (call_shape here.table kind shows ss) (value_in here (call_found here kind args))
-  call_fits (Other id) shows ss args h each =
-      of_value_fits here.book here.cell _ (here.table.value id (map (value_in here) args)) (lawful.value_fits id ss (map (value_in here) args) h each).fits
-  call_fits kind shows ss args h each = own_fits here.book here.cell kind shows ss here.limit args
+  call_fits (Other id) shows ss args known =
+      of_value_fits here.book here.cell _ (here.table.value id (map (value_in here) args)) (lawful.value_fits id ss (map (value_in here) args) known.well_formed known.fit).fits
+  call_fits kind shows ss args known = own_fits here.book here.cell kind shows ss here.limit args known
 
   mutual
     pub fits : (t : Tree) → Fits (shape here.table t) (value_in here (found_of here t))
@@ -201,7 +247,8 @@ module _ (here : Setting) (lawful : IsLawful here.table) where
     fits (tree [] (passing (unary operator)) (more t (more u ts))) = tt
     fits (tree [] spill ts) = tt
     fits (tree [] (closed c) ts) = unknown_fits here.book here.cell _
-    fits (tree [] (call kind) ts) = call_fits kind (shown_all ts) (shapes here.table ts) (found_all here ts) (shapes_well_formed here.table lawful ts) (all_fit ts)
+    fits (tree [] (call kind) ts) = call_fits kind (shown_all ts) (shapes here.table ts) (found_all here ts)
+        (record { well_formed = shapes_well_formed here.table lawful ts; fit = all_fit ts; shown = all-shown here ts })
 
     pub all_fit : (ts : Trees) → AllZip Fits (shapes here.table ts) (map (value_in here) (found_all here ts))
     all_fit none = tt

@@ -8,7 +8,7 @@ use Rattle.kind_table.specs.Table.{IsLawful}
 use Rattle.tree_core.specs.Tree.{Tree}
 use Rattle.shape_core.specs.Shape.{shape}
 use Rattle.eval_core.specs.Meaning.{mean}
-use Rattle.eval_core.specs.Own.{Setting}
+use Rattle.eval_core.specs.Setting.{Setting}
 
 abbrev pub MeanFits : Setting → Tree → Type 0
 MeanFits here t = SizeFits (shape here.table t) (height (mean here t)) (width (mean here t))

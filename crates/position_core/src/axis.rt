@@ -86,8 +86,8 @@ pub(crate) fn dropped_from_if(count: Option<i64>, total: usize) -> usize
     }
 }
 
-/// Whether a number names one of so many lines, from the front or from the end.
-pub(crate) fn is_choice(number: i64, total: usize) -> bool
+/// Whether a number names one of so many lines: from the front the first has number 1, from the end the last has -1.
+pub fn is_choice(number: i64, total: usize) -> bool
     ensures { result ≡ is_choice number total }
 {
     number != 0 && number.unsigned_abs() as usize <= total

@@ -103,7 +103,8 @@ pub(crate) fn cells(size: Size) -> usize
     }
 }
 
-fn checked(rows: usize, columns: usize, limit: usize) -> Option<Error>
+/// The error of an array of so many rows and columns that is too large, as `check_array_limit` tells it.
+pub fn checked(rows: usize, columns: usize, limit: usize) -> Option<Error>
     ensures { result ≡ checked rows columns limit }
 {
     match check_array_limit(rows, columns, limit) {

@@ -2,6 +2,8 @@
 //! it comes from. Nothing here holds an element.
 #![tactic(auto)]
 
+pub use axis::is_choice;
+pub use checks::checked;
 pub use limit::{SizeLimit, check_array_limit, check_array_size};
 pub use numbers::Numbers;
 pub use position::{Position, position_in};

@@ -1,7 +1,8 @@
 use super::answers;
 use std::test::Fail;
 
-/// Formulas by the rules: each as it is given, its export, its shape, its import, the shape of that, and both values, which are one.
+/// Formulas by the rules, in C3 of an empty sheet: each as it is given, its export, its shape, its import, the shape of that, and
+/// its values as the answer has them.
 static FORMULAS: [(&str, &str, &str, &str, &str, &str); 13] = [
     // SIN(A1:A5+1)
     (
@@ -10,7 +11,7 @@ static FORMULAS: [(&str, &str, &str, &str, &str, &str); 13] = [
         "Array(5,1)",
         r#"["call","SIN",["add",["range",0,null,true,true,1,1,true,true,5,1],["num",1000000]]]"#,
         "Array(5,1)",
-        r##"[[{"error":"#NIMPL!"}]]"##,
+        r##""legacy":[[{"error":"#NIMPL!"}]],"spilled":[[{"error":"#NIMPL!"}]]"##,
     ),
     // SIN(@A1:A3+1)
     (
@@ -19,7 +20,7 @@ static FORMULAS: [(&str, &str, &str, &str, &str, &str); 13] = [
         "Scalar",
         r#"["call","SIN",["add",["at",false,["range",0,null,true,true,1,1,true,true,3,1]],["num",1000000]]]"#,
         "Scalar",
-        r##"[[{"error":"#NIMPL!"}]]"##,
+        r##""legacy":[[{"error":"#NIMPL!"}]],"spilled":[[{"error":"#NIMPL!"}]]"##,
     ),
     // @SIN(@A1:A5)
     (
@@ -28,7 +29,7 @@ static FORMULAS: [(&str, &str, &str, &str, &str, &str); 13] = [
         "Scalar",
         r#"["at",false,["call","SIN",["at",false,["range",0,null,true,true,1,1,true,true,5,1]]]]"#,
         "Scalar",
-        r##"[[{"error":"#NIMPL!"}]]"##,
+        r##""legacy":[[{"error":"#NIMPL!"}]],"spilled":[[{"error":"#NIMPL!"}]]"##,
     ),
     // SUM(A1,B1,@J:J)
     (
@@ -37,7 +38,7 @@ static FORMULAS: [(&str, &str, &str, &str, &str, &str); 13] = [
         "Scalar",
         r#"["call","SUM",["ref",0,null,true,true,1,1],["ref",0,null,true,true,1,2],["at",false,["range",0,null,true,true,1,10,true,true,1048576,10]]]"#,
         "Scalar",
-        r#"[[0]]"#,
+        r#""legacy":[[0]],"spilled":[[0]]"#,
     ),
     // @@@INDEX(A1:A5,B1:B3)
     (
@@ -46,7 +47,7 @@ static FORMULAS: [(&str, &str, &str, &str, &str, &str); 13] = [
         "Scalar",
         r#"["at",true,["call","INDEX",["range",0,null,true,true,1,1,true,true,5,1],["at",true,["range",0,null,true,true,1,2,true,true,3,2]]]]"#,
         "Scalar",
-        r##"[[{"error":"#NIMPL!"}]]"##,
+        r#""legacy":[[null]],"spilled":[[null]]"#,
     ),
     // SIN(A1:A3+INDEX(B1:B3,1))
     (
@@ -55,7 +56,7 @@ static FORMULAS: [(&str, &str, &str, &str, &str, &str); 13] = [
         "Unknown",
         r#"["call","SIN",["add",["at",true,["range",0,null,true,true,1,1,true,true,3,1]],["at",true,["call","INDEX",["range",0,null,true,true,1,2,true,true,3,2],["num",1000000]]]]]"#,
         "Scalar",
-        r##"[[{"error":"#NIMPL!"}]]"##,
+        r##""legacy":[[{"error":"#NIMPL!"}]],"spilled":[[{"error":"#NIMPL!"}]]"##,
     ),
     // CHOOSE(A1:A5,1,2)
     (
@@ -64,7 +65,7 @@ static FORMULAS: [(&str, &str, &str, &str, &str, &str); 13] = [
         "Range(5,1)",
         r#"["call","CHOOSE",["at",true,["range",0,null,true,true,1,1,true,true,5,1]],["num",1000000],["num",2000000]]"#,
         "Scalar",
-        r##"[[{"error":"#NIMPL!"}]]"##,
+        r##""legacy":[[{"error":"#VALUE!"}]],"spilled":[[{"error":"#VALUE!"}],[{"error":"#VALUE!"}],[{"error":"#VALUE!"}],[{"error":"#VALUE!"}],[{"error":"#VALUE!"}]]"##,
     ),
     // CHOOSE(1,{7},2)
     (
@@ -73,7 +74,7 @@ static FORMULAS: [(&str, &str, &str, &str, &str, &str); 13] = [
         "Scalar",
         r#"["call","CHOOSE",["num",1000000],["array",[[7000000]]],["num",2000000]]"#,
         "Scalar",
-        r##"[[{"error":"#NIMPL!"}]]"##,
+        r#""legacy":[[7000000]],"spilled":[[7000000]]"#,
     ),
     // LET(x,1,x)
     (
@@ -82,7 +83,7 @@ static FORMULAS: [(&str, &str, &str, &str, &str, &str); 13] = [
         "Unknown",
         r#"["call","LET",["var","x",null],["num",1000000],["var","x",null]]"#,
         "Unknown",
-        r##"[[{"error":"#NIMPL!"}]]"##,
+        r##""legacy":[[{"error":"#NIMPL!"}]],"spilled":[[{"error":"#NIMPL!"}]]"##,
     ),
     // x
     (
@@ -91,7 +92,7 @@ static FORMULAS: [(&str, &str, &str, &str, &str, &str); 13] = [
         "Scalar",
         r#"["at",true,["var","x",null]]"#,
         "Scalar",
-        r##"[[{"error":"#NIMPL!"}]]"##,
+        r##""legacy":[[{"error":"#NIMPL!"}]],"spilled":[[{"error":"#NIMPL!"}]]"##,
     ),
     // a name of a range
     (
@@ -100,7 +101,7 @@ static FORMULAS: [(&str, &str, &str, &str, &str, &str); 13] = [
         "Unknown",
         r#"["at",true,["name","data",null,"Sheet1!A1:B3"]]"#,
         "Scalar",
-        r##"[[{"error":"#NIMPL!"}]]"##,
+        r##""legacy":[[{"error":"#NIMPL!"}]],"spilled":[[{"error":"#NIMPL!"}]]"##,
     ),
     // a name of an absolute range
     (
@@ -109,7 +110,7 @@ static FORMULAS: [(&str, &str, &str, &str, &str, &str); 13] = [
         "Unknown",
         r#"["name","data",null,"Sheet1!$A$1:$A$5"]"#,
         "Unknown",
-        r##"[[{"error":"#NIMPL!"}]]"##,
+        r##""legacy":[[{"error":"#NIMPL!"}]],"spilled":[[{"error":"#NIMPL!"}]]"##,
     ),
     // a lambda
     (
@@ -118,19 +119,19 @@ static FORMULAS: [(&str, &str, &str, &str, &str, &str); 13] = [
         "Unknown",
         r#"["lambda",["x"],["num",0]]"#,
         "Unknown",
-        r##"[[{"error":"#NIMPL!"}]]"##,
+        r##""legacy":[[{"error":"#NIMPL!"}]],"spilled":[[{"error":"#NIMPL!"}]]"##,
     ),
 ];
 
 #[test]
 fn formulas_are_imported_and_exported_to_the_byte(rt: HostRuntime) -> Result<(), Fail> {
     let alloc = rt.alloc();
-    for &(formula, exported, given_shape, imported, imported_shape, value) in &FORMULAS {
+    for &(formula, exported, given_shape, imported, imported_shape, values) in &FORMULAS {
         let request = format!(in alloc;
             "{{\"sheets\":[\"Sheet1\"],\"cells\":[],\"cell\":[0,3,3],\"formula\":{formula}}}"
         )?;
         let line = format!(in alloc;
-            "{{\"exported\":{exported},\"given_shape\":\"{given_shape}\",\"imported\":{imported},\"imported_shape\":\"{imported_shape}\",\"legacy\":{value},\"spilled\":{value}}}\n"
+            "{{\"exported\":{exported},\"given_shape\":\"{given_shape}\",\"imported\":{imported},\"imported_shape\":\"{imported_shape}\",{values}}}\n"
         )?;
         assert!(rt;
             answers(alloc, request.as_str(), line.as_str())?,

@@ -2,7 +2,7 @@ use super::answers_in;
 use std::test::Fail;
 
 /// A sheet of numbers, in which C1 is 3 and D1 is 6, and formulas in cells of it with their spilled and legacy values.
-const NUMBERS: &str =
+pub(super) const NUMBERS: &str =
     "[[0,1,1,1000000],[0,1,2,2000000],[0,1,3,3000000],[0,2,1,4000000],[0,2,2,5000000],[0,2,3,6000000],[0,1,4,6000000,null,\"=SUM(A1:C1)\"]]";
 
 static VALUES: [(&str, &str, &str, &str); 22] = [

@@ -4,7 +4,7 @@ use denote.Param.Weighed.{most}
 use Rattle.tree_core.specs.Formula.{tree_of}
 use Rattle.tree_core.specs.declared.node.Node.{size-Node}
 use Rattle.eval_core.specs.Meaning.{found_of}
-use Rattle.eval_core.specs.Own.{setting}
+use Rattle.eval_core.specs.Setting.{setting}
 use Rattle.eval_core.proofs.evaluation.+evaluation.Given as goal
 
 abbrev pub decreases-found_of : goal.decreases-found_of

@@ -1,7 +1,7 @@
 -- The values so far, and those of what is left.
 use Rattle.std.proofs.Common.{◌≡◌, ◌++◌, map}
 use Rattle.eval_core.specs.Meaning.{value_in}
-use Rattle.eval_core.specs.Own.{setting}
+use Rattle.eval_core.specs.Setting.{setting}
 use Rattle.eval_core.proofs.evaluation.values_in.Given as goal
 
 abbrev pub invariant-loop-arg : goal.invariant-loop-arg

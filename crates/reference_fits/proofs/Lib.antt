@@ -1,0 +1,5 @@
+pub mod Sizes
+pub mod Numbers
+pub mod Choices
+pub mod Offsets
+pub mod Law

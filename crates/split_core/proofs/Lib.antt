@@ -1,0 +1,4 @@
+pub mod Boundaries
+pub mod Cutting
+pub mod Joined
+pub mod Lowered

@@ -1,0 +1,4 @@
+pub mod Address
+pub mod Indirect
+pub mod ArrayToText
+pub mod TextSplit

@@ -1,0 +1,4 @@
+pub mod Unit
+pub mod Field
+pub mod Format
+pub mod Locale
