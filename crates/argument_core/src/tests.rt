@@ -110,8 +110,8 @@ fn arguments_are_arrays_and_texts(rt: HostRuntime) -> Result<(), Fail> {
     assert!(rt; matches!(&text, Ok(text) if text.as_str() == "2"));
     let args = cells(alloc, 2)?;
     let grids = arrays_in(alloc, &book, CELL, args, &mut steps);
-    let blank = Grid::of_one(alloc, ArrayNode::Empty)?;
-    assert!(rt; matches!(&grids, Ok(grids) if grids.len() == 2 && grids[1] == blank));
+    let zero = Grid::of_one(alloc, ArrayNode::Number(0))?;
+    assert!(rt; matches!(&grids, Ok(grids) if grids.len() == 2 && grids[1] == zero));
     Ok(())
 }
 
