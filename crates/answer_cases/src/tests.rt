@@ -6,24 +6,26 @@ use kind_table::{CrateKinds, StaticResult};
 use std::alloc::{AllocError, Global};
 use std::test::Fail;
 use tree_core::{ArrayNode, CellReferenceIndex, Memory, Node, Plain, Steps, Text};
+use units_core::{Locale, MapFormats};
 
 mod formulas;
 mod functions;
 mod kinds;
 mod references;
+mod requests;
 mod values;
 
 const COLUMN: &str =
     r#"{"sheets":["Sheet1"],"cells":[[0,1,1,1000000],[0,2,1,2000000],[0,3,1,3000000],[0,4,1,4000000],[0,5,1,5000000]],"cell":[0,3,3],"formula":["range",0,null,false,false,-2,-2,false,false,2,-2]}"#;
 
 const COLUMN_ANSWER: &str =
-    "{\"exported\":[\"range\",0,null,false,false,-2,-2,false,false,2,-2],\"given_shape\":\"Range(5,1)\",\"imported\":[\"at\",true,[\"range\",0,null,false,false,-2,-2,false,false,2,-2]],\"imported_shape\":\"Scalar\",\"legacy\":[[3000000]],\"spilled\":[[1000000],[2000000],[3000000],[4000000],[5000000]]}\n";
+    "{\"exported\":[\"range\",0,null,false,false,-2,-2,false,false,2,-2],\"given_shape\":\"Range(5,1)\",\"imported\":[\"at\",true,[\"range\",0,null,false,false,-2,-2,false,false,2,-2]],\"imported_shape\":\"Scalar\",\"legacy\":[[3000000]],\"spilled\":[[1000000],[2000000],[3000000],[4000000],[5000000]],\"unit\":null}\n";
 
 const RUNS: &str =
     r#"{"sheets":["Sheet1"],"cells":[],"cell":[0,3,3],"formula":["add",["at",true,["at",false,["num",1000000]]],["at",false,["add",["range",0,null,true,true,1,1,true,true,3,1],["num",0]]]]}"#;
 
 const RUNS_ANSWER: &str =
-    "{\"exported\":[\"add\",[\"at\",false,[\"num\",1000000]],[\"at\",false,[\"add\",[\"range\",0,null,true,true,1,1,true,true,3,1],[\"num\",0]]]],\"given_shape\":\"Scalar\",\"imported\":[\"add\",[\"at\",false,[\"num\",1000000]],[\"at\",false,[\"add\",[\"range\",0,null,true,true,1,1,true,true,3,1],[\"num\",0]]]],\"imported_shape\":\"Scalar\",\"legacy\":[[1000000]],\"spilled\":[[1000000]]}\n";
+    "{\"exported\":[\"add\",[\"at\",false,[\"num\",1000000]],[\"at\",false,[\"add\",[\"range\",0,null,true,true,1,1,true,true,3,1],[\"num\",0]]]],\"given_shape\":\"Scalar\",\"imported\":[\"add\",[\"at\",false,[\"num\",1000000]],[\"at\",false,[\"add\",[\"range\",0,null,true,true,1,1,true,true,3,1],[\"num\",0]]]],\"imported_shape\":\"Scalar\",\"legacy\":[[1000000]],\"spilled\":[[1000000]],\"unit\":null}\n";
 
 /// SUM(1,{1,2;3}), and the same in a cell of row 0; a call of a number that the table doesn't know.
 const UNEVEN: &str =
@@ -157,6 +159,7 @@ fn a_number_is_its_own_answer(rt: HostRuntime) -> Result<(), Fail> {
     assert!(rt; answer.exported == Node::NumberKind(7));
     assert_eq!(rt; answer.imported_shape, StaticResult::Scalar);
     assert!(rt; answer.spilled.get(0, 0) == Some(&ArrayNode::Number(7)));
+    assert!(rt; answer.unit.is_none());
     Ok(())
 }
 
@@ -172,7 +175,11 @@ fn answer_of_seven(alloc: Global) -> Result<Answer, Fail> {
     let mut steps = Steps::new(Plain);
     let rule = ImportRule::EveryScalar;
     let kinds = &CrateKinds;
-    let answered = answer_formula(alloc, kinds, &book, rule, 1, cell, &number, &mut steps);
+    let formats = MapFormats::new(alloc);
+    let locale = Locale::standard(alloc)?;
+    let answered = answer_formula(
+        alloc, kinds, &book, &formats, &locale, rule, 1, cell, &number, &mut steps,
+    );
     answered.map_err(|_| "no answer".into())
 }
 

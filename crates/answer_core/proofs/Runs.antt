@@ -4,19 +4,13 @@
 --   fed-valid     a source with a valid request gives no bad one
 --   fed-refused   without faults, want of memory alone refuses a run that is fed
 --   complete      so it is carried out, or memory ran out
---   asked-is      what a request asks, as it was read
 --   refused       what stands against a request's formula is a reason to refuse it
 use Rattle.std.proofs.Common.{◌≡◌, ℕ, ◌≤◌, List, ◌++◌, length, Option, Some, None, inl, inr, ◌⊎◌, refl, sym, ap, ◌∙◌, arith, subst}
 use Rattle.std.proofs.lemmas.List.{append-nil, length-append}
-use Rattle.value_core.specs.declared.position.CellReferenceIndex.{CellReferenceIndex}
-use Rattle.tree_core.specs.Formula.{tree_of}
-use Rattle.tree_core.specs.Tree.{Tree}
-use Rattle.book_core.specs.Contents.{Contents}
 use Rattle.device_core.specs.Faults.{Rose}
 use Rattle.device_core.specs.Flow.{Consumes, IsAtEnd}
 use Rattle.validity_core.specs.declared.place.Place.{Place}
-use Rattle.request_core.specs.Request.{Asked, Keeps, request_of}
-use Rattle.request_core.specs.declared.request.Request.{Request}
+use Rattle.request_core.specs.Request.{Asked, request_of}
 use Rattle.answer_core.specs.declared.command.Command.{Command}
 use Rattle.answer_core.specs.declared.command.Command.TheVariants.{Answer}
 use Rattle.answer_core.specs.declared.refusal.Refusal.{Refusal}
@@ -24,7 +18,7 @@ use Rattle.answer_core.specs.declared.refusal.Refusal.TheVariants.{Usage, ReadFa
 use Rattle.answer_core.specs.declared.status.Status.{Status}
 use Rattle.answer_core.specs.declared.status.Status.TheVariants as status
 use Rattle.answer_core.specs.Refusal.{status_of}
-use Rattle.answer_core.specs.Run.{Trace, ReadsWhole, HasRequest, IsBadRequest, HasReason, IsFed, IsFaultless, IsSent, RefusedBy, asked_of, bad_of}
+use Rattle.answer_core.specs.Run.{Trace, ReadsWhole, HasRequest, IsBadRequest, HasReason, IsFed, IsFaultless, IsSent, RefusedBy, bad_of}
 
 some-is : {A : Type 0} (x y : A) → Some x ≡ Some y → x ≡ y
 some-is x y e = cc
@@ -83,20 +77,11 @@ module _ (source : Trace) where
   complete command named sink refusal text wanted result same is reason (inr cut) fed quiet heard =
       let stays = heard.stays in let below = heard.below_end in let rose = cut.2 in absurd (omega (arith, stays, below, rose))
 
-pub asked-is : (request : Request) (asked : Asked) → Keeps request asked → asked_of request ≡ asked
-asked-is request asked kept =
-    ap (λ book. asking book request.cell (tree_of request.formula)) kept.book ∙ ap (λ cell. asking asked.book cell (tree_of request.formula)) kept.cell
-    ∙ ap (λ formula. asking asked.book asked.cell formula) kept.formula
-  where
-    asking : Contents → CellReferenceIndex → Tree → Asked
-    asking book cell formula = record { book = book; cell = cell; formula = formula }
-
-pub refused : (source : Trace) (bytes : List ℕ) (request : Request) (asked : Asked) (refusal : Refusal) → ReadsWhole source bytes → request_of bytes ≡ Some asked
-    → Keeps request asked → RefusedBy (bad_of (asked_of request)) refusal → HasReason (Some Answer) source refusal
-refused source bytes request asked Usage whole is kept bad = absurd bad
-refused source bytes request asked ReadFault whole is kept bad = absurd bad
-refused source bytes request asked TooLong whole is kept bad = absurd bad
-refused source bytes request asked BadJson whole is kept bad = absurd bad
-refused source bytes request asked (BadRequest place) whole is kept bad =
-    record { bytes = bytes; whole = whole; request = asked; is_request = is; is_bad = ap bad_of (sym (asked-is request asked kept)) ∙ bad }
-refused source bytes request asked Memory whole is kept bad = refl
+pub refused : (source : Trace) (bytes : List ℕ) (asked : Asked) (refusal : Refusal) → ReadsWhole source bytes → request_of bytes ≡ Some asked
+    → RefusedBy (bad_of asked) refusal → HasReason (Some Answer) source refusal
+refused source bytes asked Usage whole is bad = absurd bad
+refused source bytes asked ReadFault whole is bad = absurd bad
+refused source bytes asked TooLong whole is bad = absurd bad
+refused source bytes asked BadJson whole is bad = absurd bad
+refused source bytes asked (BadRequest place) whole is bad = record { bytes = bytes; whole = whole; request = asked; is_request = is; is_bad = bad }
+refused source bytes asked Memory whole is bad = refl

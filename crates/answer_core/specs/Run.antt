@@ -3,8 +3,7 @@
 --                 given), and its counts of faults before and after
 --   ReadsWhole    a source was read to its end and gave these bytes, at most 16777216 of them
 --   IsAnswered    it gave a request, and the text is the line of an answer to it
---   setting_of, bad_of   what a request is answered in; the first bad place of its formula
---   asked_of      what a request asks
+--   setting_of, shown_of, bad_of   what a request is answered in, and by what its unit is found; the first bad place of its formula
 --   RefusedBy     what stands against a formula: its first bad place, or want of memory
 --   IsNoRequest   it gave bytes that are no request
 --   IsBadRequest  it gave a request whose formula is bad at a place
@@ -22,15 +21,10 @@ use Rattle.device_core.specs.Faults.{Rose}
 use Rattle.device_core.specs.Flow.{Consumes, ConsumesAtMost, ConsumesCount, IsAtEnd, Adds, AddsFront}
 use Rattle.device_core.specs.declared.read.TheConstants.{LIMIT}
 use Rattle.kind_table.specs.CrateTable.{crate_table}
-use Rattle.intersect.specs.declared.rule.ImportRule.TheVariants.{AsCrate}
-use Rattle.book_core.specs.Held.{contents_of}
 use Rattle.validity_core.specs.Place.{bad_place}
 use Rattle.validity_core.specs.declared.place.Place.{Place}
 use Rattle.eval_core.specs.Setting.{Setting, setting}
-use Rattle.answer_core.specs.declared.reading.TheConstants.{CELL_LIMIT}
-use Rattle.tree_core.specs.Formula.{tree_of}
 use Rattle.request_core.specs.Request.{Asked, request_of}
-use Rattle.request_core.specs.declared.request.Request.{Request}
 use Rattle.print_core.specs.Answer.{answer_line}
 use Rattle.print_core.specs.declared.answer.Answer.{Answer as TheAnswer}
 use Rattle.answer_core.specs.declared.command.Command.{Command}
@@ -39,7 +33,7 @@ use Rattle.answer_core.specs.declared.refusal.Refusal.{Refusal}
 use Rattle.answer_core.specs.declared.refusal.Refusal.TheVariants.{Usage, ReadFault, TooLong, BadJson, BadRequest, Memory}
 use Rattle.answer_core.specs.declared.status.Status.{Status}
 use Rattle.answer_core.specs.declared.status.Status.TheVariants as status
-use Rattle.answer_core.specs.Answers.{Answers}
+use Rattle.answer_core.specs.Answers.{Answers, Shown, shown_by}
 use Rattle.answer_core.specs.Refusal.{line_of}
 
 pub record Trace : Type 0 where
@@ -56,16 +50,16 @@ pub record ReadsWhole (source : Trace) (bytes : List ℕ) : Type 0 where
   pub at_end : IsAtEnd source.new
   pub within : length bytes ≤ LIMIT
 
--- what a request is answered in: the table of the crate, at most 1000000 cells of an array
+-- what a request is answered in: the table of the crate, and the limit of cells that it asks for
 abbrev pub setting_of : Asked → Setting
-setting_of request = setting crate_table request.book CELL_LIMIT request.cell
+setting_of request = setting crate_table request.book request.options.limit request.cell
+
+abbrev pub shown_of : Asked → Shown
+shown_of request = shown_by request.first_part request.locale
 
 -- the first bad place of a request's formula
 abbrev pub bad_of : Asked → Option Place
 bad_of request = bad_place crate_table (length request.book.sheets) request.cell request.formula
-
-abbrev pub asked_of : Request → Asked
-asked_of request = record { book = contents_of request.book; cell = request.cell; formula = tree_of request.formula }
 
 -- one line for each refusal
 abbrev pub RefusedBy : Option Place → Refusal → Type 0
@@ -82,7 +76,7 @@ pub record IsAnswered (source : Trace) (text : List ℕ) : Type 0 where
   pub request : Asked
   pub is_request : request_of bytes ≡ Some request
   pub answer : TheAnswer
-  pub answers : Answers AsCrate (setting_of request) request.formula answer
+  pub answers : Answers request.options.rule (setting_of request) (shown_of request) request.formula answer
   pub text_is : text ≡ answer_line answer
 
 pub record IsNoRequest (source : Trace) : Type 0 where

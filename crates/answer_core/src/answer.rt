@@ -3,7 +3,7 @@ ghost use Rattle.tree_core.specs.Count.{calls_of, size_of};
 ghost use Rattle.tree_core.specs.Formula.{tree_of};
 ghost use Rattle.validity_core.specs.Place.{bad_place};
 ghost use Rattle.eval_core.specs.Setting.{setting};
-ghost use Rattle.answer_core.specs.Answers.{Answers, FitTheirShapes, Judges, most_questions};
+ghost use Rattle.answer_core.specs.Answers.{Answers, FitTheirShapes, Judges, most_questions, shown_by};
 ghost use Rattle.answer_core.specs.Parts.{AreFormulas, AreRectangles, AreShapes, AreValues, formula_questions};
 
 use book_core::Reads;
@@ -15,19 +15,22 @@ use rectangle_core::Grid;
 use shape_core::run_static_analysis_on_node;
 use std::alloc::Global;
 use tree_core::{CellReferenceIndex, Memory, Node, Plain, Steps};
+use units_core::{Formats, Locale, compute_node_units};
 
 /// The answer to a formula in a cell of a book, by a table of kinds and a rule of import; `limit`, at most 16777216, is
-/// the greatest number of cells of an array that a function makes. The formula stays as it is, and has fewer than 2^63 nodes, since
-/// import may double them.
+/// the greatest number of cells of an array that a function makes. Its display unit is found by what is known of number formats
+/// and by a locale. The formula stays as it is, and has fewer than 2^63 nodes, since import may double them.
 ///
 /// Each of the two values has at most as many rows and columns as its shape says.
 ///
 /// `BadRequest` comes exactly where the formula isn't valid there, with the first bad place, and takes no memory. The table is
 /// asked at most `2 * C * ((n + 1) * (n + 1) + 2)` times, with C calls in the formula and n `@`s in its import.
-pub fn answer_formula<K: Asks<L>, B: Reads<Plain>, L>(
+pub fn answer_formula<K: Asks<L>, B: Reads<Plain>, F: Formats, L>(
     alloc: Global,
     kinds: &K,
     book: &B,
+    formats: &F,
+    locale: &Locale,
     rule: ImportRule,
     limit: usize,
     cell: CellReferenceIndex,
@@ -36,7 +39,8 @@ pub fn answer_formula<K: Asks<L>, B: Reads<Plain>, L>(
 ) -> Result<Answer, Fault>
     requires countable { 2 * size_of (tree_of node.now) < 2 ^ 64 }
     requires limited { limit ≤ 16777216 }
-    ensures answers { IfOk result (Answers rule (setting (K.table kinds.now) (B.contents book.now) limit cell) (tree_of node.now)) }
+    ensures answers { IfOk result (Answers rule (setting (K.table kinds.now) (B.contents book.now) limit cell)
+        (shown_by (F.first_part formats.now) locale.now) (tree_of node.now)) }
     ensures fits { IfOk result FitTheirShapes }
     ensures judged { Judges result (bad_place (K.table kinds.now) (length (B.contents book.now).sheets) cell (tree_of node.now)) }
     ensures counted { steps.new ≤ steps.old + most_questions rule (K.table kinds.now) (tree_of node.now) }
@@ -44,17 +48,21 @@ pub fn answer_formula<K: Asks<L>, B: Reads<Plain>, L>(
     match valid(kinds, book, cell, node) {
         Some(place) => Err(Fault::BadRequest(place)),
         None => {
-            let answer = answer_of(alloc, kinds, book, rule, limit, cell, node, steps)?;
+            let answer = answer_of(
+                alloc, kinds, book, formats, locale, rule, limit, cell, node, steps,
+            )?;
             Ok(answer)
         }
     }
 }
 
 /// The same of any formula, valid or not.
-fn answer_of<K: Asks<L>, B: Reads<Plain>, L>(
+fn answer_of<K: Asks<L>, B: Reads<Plain>, F: Formats, L>(
     alloc: Global,
     kinds: &K,
     book: &B,
+    formats: &F,
+    locale: &Locale,
     rule: ImportRule,
     limit: usize,
     cell: CellReferenceIndex,
@@ -63,13 +71,15 @@ fn answer_of<K: Asks<L>, B: Reads<Plain>, L>(
 ) -> Result<Answer, Memory>
     requires countable { 2 * size_of (tree_of node.now) < 2 ^ 64 }
     requires limited { limit ≤ 16777216 }
-    ensures answers { IfOk result (Answers rule (setting (K.table kinds.now) (B.contents book.now) limit cell) (tree_of node.now)) }
+    ensures answers { IfOk result (Answers rule (setting (K.table kinds.now) (B.contents book.now) limit cell)
+        (shown_by (F.first_part formats.now) locale.now) (tree_of node.now)) }
     ensures fits { IfOk result FitTheirShapes }
     ensures counted { steps.new ≤ steps.old + most_questions rule (K.table kinds.now) (tree_of node.now) }
 {
     let formulas = formulas_of(alloc, kinds, rule, node, steps)?;
     let shapes = shapes_of(alloc, kinds, node, &formulas.imported, steps)?;
     let values = values_of(alloc, kinds, book, limit, cell, node, &formulas.imported)?;
+    let unit = compute_node_units(alloc, node, cell, kinds, book, formats, locale)?;
     Ok(Answer {
         exported: formulas.exported,
         given_shape: shapes.given,
@@ -77,6 +87,7 @@ fn answer_of<K: Asks<L>, B: Reads<Plain>, L>(
         imported_shape: shapes.imported,
         legacy: values.legacy,
         spilled: values.spilled,
+        unit,
     })
 }
 

@@ -2,22 +2,19 @@ ghost use Rattle.std.specs.Prelude.{◌≡◌, ◌≤◌, None, Some, IfOk, IfEr
 ghost use Rattle.tree_core.specs.Count.{size_of};
 ghost use Rattle.tree_core.specs.Formula.{tree_of};
 ghost use Rattle.answer_core.specs.Answers.{Answers};
-ghost use Rattle.answer_core.specs.Run.{IsAnswered, IsOutput, HasReason, RefusedBy, asked_of, bad_of, setting_of, trace};
+ghost use Rattle.request_core.specs.Request.{asked_of};
+ghost use Rattle.answer_core.specs.Run.{IsAnswered, IsOutput, HasReason, RefusedBy, bad_of, setting_of, shown_of, trace};
 ghost use Rattle.answer_core.specs.Refusal.{CountsRefusal};
 
 use crate::answer::answer_formula;
 use crate::command::Command;
 use crate::refusal::Refusal;
 use device_core::{Source, read_to_end};
-use intersect::ImportRule;
 use kind_table::CrateKinds;
 use print_core::{Answer, answer_line};
 use request_core::{Request, read_request};
 use std::alloc::Global;
 use tree_core::{Plain, Steps};
-
-/// The greatest number of cells of an array that a function makes.
-pub(crate) const CELL_LIMIT: usize = 1000000;
 
 /// The line that a command sends.
 pub(crate) fn line_for<S: Source>(
@@ -55,18 +52,21 @@ fn answer<S: Source>(alloc: Global, source: &mut S) -> Result<Vec<u8>, Refusal>
     Ok(line)
 }
 
-/// The answer to a request, by the table and the rule of the crate.
+/// The answer to a request, by the table of the crate, and by the rule and the limit that it asks for.
 fn answer_to(alloc: Global, request: &Request) -> Result<Answer, Refusal>
-    requires { size_of (tree_of request.now.formula) ≤ 16777216 }
-    ensures answers { IfOk result (Answers ImportRule.AsCrate (setting_of (asked_of request.now)) (tree_of request.now.formula)) }
+    requires most { size_of (tree_of request.now.formula) ≤ 16777216 }
+    requires limited { request.now.options.limit ≤ 16777216 }
+    ensures answers { IfOk result (Answers request.now.options.rule (setting_of (asked_of request.now)) (shown_of (asked_of request.now)) (tree_of request.now.formula)) }
     ensures refusal { IfErr result (RefusedBy (bad_of (asked_of request.now))) }
 {
     let answer = answer_formula(
         alloc,
         &CrateKinds,
         &request.book,
-        ImportRule::AsCrate,
-        CELL_LIMIT,
+        &request.formats,
+        &request.locale,
+        request.options.rule,
+        request.options.limit,
         request.cell,
         &request.formula,
         &mut Steps::new(Plain),

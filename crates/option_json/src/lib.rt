@@ -2,7 +2,7 @@
 //! `rule` and `limit` say.
 #![tactic(auto)]
 
-pub use options::{OPTION_KEYS, Options, read_options};
+pub use options::{Options, read_options};
 
 mod options;
 mod rule;

@@ -10,9 +10,6 @@ use intersect::ImportRule;
 use serde_json::Value;
 use value_json::FormError;
 
-/// The keys of a request that say how it is to be answered.
-pub static OPTION_KEYS: [&str; 3] = ["version", "rule", "limit"];
-
 /// The greatest limit of cells.
 const MOST_CELLS: u64 = 16777216;
 

@@ -1,15 +1,17 @@
--- The tokens of six parts of an object.
---   six-parts   written one after another, they are those of the object
+-- The tokens of seven parts of an object.
+--   seven-parts   written one after another, they are those of the object
 use Rattle.std.proofs.Common.{◌≡◌, List, [], ◌∷◌, ◌++◌, ap, ◌∙◌, append_assoc}
 use Rattle.json.specs.Token.{Token}
 
-pub six-parts : (old a b c d e f : List Token) (first last : Token)
-    → (((((((old ++ first ∷ []) ++ a) ++ b) ++ c) ++ d) ++ e) ++ f) ++ last ∷ [] ≡ old ++ (first ∷ (a ++ (b ++ (c ++ (d ++ (e ++ (f ++ last ∷ [])))))))
-six-parts old a b c d e f first last =
-    append_assoc ((((((old ++ first ∷ []) ++ a) ++ b) ++ c) ++ d) ++ e) f (last ∷ [])
-    ∙ append_assoc (((((old ++ first ∷ []) ++ a) ++ b) ++ c) ++ d) e (f ++ last ∷ [])
-    ∙ append_assoc ((((old ++ first ∷ []) ++ a) ++ b) ++ c) d (e ++ (f ++ last ∷ []))
-    ∙ append_assoc (((old ++ first ∷ []) ++ a) ++ b) c (d ++ (e ++ (f ++ last ∷ [])))
-    ∙ append_assoc ((old ++ first ∷ []) ++ a) b (c ++ (d ++ (e ++ (f ++ last ∷ []))))
-    ∙ append_assoc (old ++ first ∷ []) a (b ++ (c ++ (d ++ (e ++ (f ++ last ∷ [])))))
-    ∙ append_assoc old (first ∷ []) (a ++ (b ++ (c ++ (d ++ (e ++ (f ++ last ∷ []))))))
+four-parts : (old a b c d : List Token) → (((old ++ a) ++ b) ++ c) ++ d ≡ old ++ (a ++ (b ++ (c ++ d)))
+four-parts old a b c d =
+    append_assoc ((old ++ a) ++ b) c d ∙ append_assoc (old ++ a) b (c ++ d) ∙ append_assoc old a (b ++ (c ++ d))
+
+pub seven-parts : (old a b c d e f g : List Token) (first last : Token)
+    → ((((((((old ++ first ∷ []) ++ a) ++ b) ++ c) ++ d) ++ e) ++ f) ++ g) ++ last ∷ []
+    ≡ old ++ (first ∷ (a ++ (b ++ (c ++ (d ++ (e ++ (f ++ (g ++ last ∷ []))))))))
+seven-parts old a b c d e f g first last =
+    four-parts (((((old ++ first ∷ []) ++ a) ++ b) ++ c) ++ d) e f g (last ∷ [])
+    ∙ four-parts ((old ++ first ∷ []) ++ a) b c d (e ++ (f ++ (g ++ last ∷ [])))
+    ∙ append_assoc (old ++ first ∷ []) a (b ++ (c ++ (d ++ (e ++ (f ++ (g ++ last ∷ []))))))
+    ∙ append_assoc old (first ∷ []) (a ++ (b ++ (c ++ (d ++ (e ++ (f ++ (g ++ last ∷ [])))))))

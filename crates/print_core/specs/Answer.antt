@@ -11,6 +11,7 @@ use Rattle.kind_table.specs.declared.static_result.StaticResult.{StaticResult}
 use Rattle.kind_table.specs.declared.static_result.StaticResult.TheVariants.{Scalar, Array, Range, Unknown}
 use Rattle.value_json.specs.Values.{rows_data}
 use Rattle.formula_json.specs.Formula.{node_data}
+use Rattle.unit_json.specs.Unit.{unit_or_null}
 use Rattle.print_core.specs.declared.answer.Answer.{Answer}
 
 abbrev pub size_text : List ℕ → ℤ → ℤ → List ℕ
@@ -32,8 +33,9 @@ answer_data answer = object (
     member (codes "imported") (node_data answer.imported) (
     member (codes "imported_shape") (shape_data answer.imported_shape) (
     member (codes "legacy") (rows_data answer.legacy) (
-    member (codes "spilled") (rows_data answer.spilled)
-    no_members))))))
+    member (codes "spilled") (rows_data answer.spilled) (
+    member (codes "unit") (unit_or_null answer.unit)
+    no_members)))))))
 
 abbrev pub answer_line : Answer → List ℕ
 answer_line answer = compact_text (answer_data answer) ++ 10 ∷ []

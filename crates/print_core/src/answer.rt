@@ -3,6 +3,7 @@ ghost use Rattle.json.specs.Token.{key};
 ghost use Rattle.value_json.specs.Piece.{Writes, data_tokens};
 ghost use Rattle.value_json.specs.Values.{rows_data};
 ghost use Rattle.formula_json.specs.Formula.{node_data};
+ghost use Rattle.unit_json.specs.Unit.{unit_or_null};
 ghost use Rattle.print_core.specs.Answer.{answer_data, answer_line, shape_data};
 
 use crate::shape::shape_text;
@@ -12,6 +13,8 @@ use kind_table::StaticResult;
 use rectangle_core::Grid;
 use std::alloc::Global;
 use tree_core::{Memory, Node};
+use unit_json::write_unit;
+use units_core::Units;
 use value_json::write_grid;
 
 /// The answer to a formula. Its parts stand in the order in which they are written.
@@ -29,6 +32,8 @@ pub struct Answer {
     pub legacy: Grid,
     /// The value of the formula as it is given: what it means where many values may spill.
     pub spilled: Grid,
+    /// The display unit of the formula as it is given; `None` where it has none.
+    pub unit: Option<Units>,
 }
 
 /// The line of an answer: an object with a key for each part, in their order, as compact JSON in UTF-8, and a newline. The
@@ -53,6 +58,7 @@ fn write_answer(alloc: Global, writer: &mut Writer, answer: &Answer) -> Result<(
     write_shape(alloc, writer, "imported_shape", answer.imported_shape)?;
     write_value(writer, "legacy", &answer.legacy)?;
     write_value(writer, "spilled", &answer.spilled)?;
+    write_display_unit(writer, "unit", &answer.unit)?;
     writer.end_object()?;
     Ok(())
 }
@@ -76,6 +82,14 @@ fn write_shape(
     writer.key(name)?;
     let text = shape_text(alloc, shape)?;
     writer.string(text.as_str())?;
+    Ok(())
+}
+
+fn write_display_unit(writer: &mut Writer, name: &str, unit: &Option<Units>) -> Result<(), Memory>
+    ensures { Writes result writer.old writer.new (key name.now ∷ data_tokens (unit_or_null unit.now)) }
+{
+    writer.key(name)?;
+    write_unit(writer, unit)?;
     Ok(())
 }
 

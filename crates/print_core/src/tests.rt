@@ -1,11 +1,25 @@
 use crate::{Answer, answer_line};
 use kind_table::StaticResult;
 use rectangle_core::Grid;
+use std::alloc::Global;
 use std::test::Fail;
 use tree_core::{ArrayNode, Node};
+use units_core::Units;
+use value_core::{Memory, Text};
 
 const LINE: &str =
-    "{\"exported\":[\"bool\",true],\"given_shape\":\"Array(3,16384)\",\"imported\":[\"at\",true,[\"num\",-2]],\"imported_shape\":\"Scalar\",\"legacy\":[[-2]],\"spilled\":[[null]]}\n";
+    "{\"exported\":[\"bool\",true],\"given_shape\":\"Array(3,16384)\",\"imported\":[\"at\",true,[\"num\",-2]],\"imported_shape\":\"Scalar\",\"legacy\":[[-2]],\"spilled\":[[null]],\"unit\":{\"currency\":\"€\",\"group_separator\":true,\"kind\":\"Currency\",\"num_fmt\":\"0.0 €\",\"precision\":-1}}\n";
+
+fn euros(alloc: Global) -> Result<Units, Memory> {
+    let num_fmt = Text::from_text(alloc, "0.0 €")?;
+    let currency = Text::from_text(alloc, "€")?;
+    Ok(Units::Currency {
+        group_separator: true,
+        precision: -1,
+        num_fmt,
+        currency,
+    })
+}
 
 #[test]
 fn an_answer_is_one_line(rt: HostRuntime) -> Result<(), Fail> {
@@ -17,6 +31,7 @@ fn an_answer_is_one_line(rt: HostRuntime) -> Result<(), Fail> {
         imported_shape: StaticResult::Scalar,
         legacy: Grid::of_one(alloc, ArrayNode::Number(-2))?,
         spilled: Grid::of_one(alloc, ArrayNode::Empty)?,
+        unit: Some(euros(alloc)?),
     };
     let line = answer_line(alloc, &answer)?;
     assert_eq!(rt; line.as_slice(), LINE.as_bytes());

@@ -1,3 +1,5 @@
 pub mod Text
 pub mod Cells
+pub mod Question
+pub mod Showing
 pub mod Request

@@ -1,67 +1,60 @@
--- The request that bytes are: a JSON object with exactly these keys.
+-- The request that bytes are: a JSON object with these keys, the first four of which it must have.
 --
--- `sheets_in`   the names of the sheets: at most 2^32 - 1 texts
--- `formula_in`  the formula: a node, of at most 16777216 nodes in all
--- `Asked`       what a request asks for: what the book holds, the formula's cell, the formula
--- `asked_in`    what a JSON value asks for; an optional key has its name in `KEYS`, and a line here
+-- `Asked`       what a request asks for: what the book holds, the formula's cell, the formula; what is known of number formats, the
+--               locale; the rule of import and the limit of cells
+-- `asking`      the same, of its three parts
+-- `asked_in`    what a JSON value asks for
 -- `request_of`  what bytes ask for
--- `Keeps`       a request that was read is what was asked for
--- `Reads`       a reader's request is what is asked for; it is refused exactly where nothing is
-use Rattle.std.specs.Prelude.{◌≡◌, ℕ, ◌^◌, List, length, map, codes, nat_lt, nat_le, if◌then◌else◌, Option, Some, None, Result, Ok, Err, ⊤}
+-- `asked_of`    what a request asks for that was read
+use Rattle.std.specs.Prelude.{ℕ, ◌×◌, List, map, Option, Some}
 use Rattle.serde_json.specs.Data.{Data}
-use Rattle.serde_json.specs.Find.{get}
 use Rattle.value_core.specs.declared.position.CellReferenceIndex.{CellReferenceIndex}
 use Rattle.book_core.specs.Contents.{Contents}
 use Rattle.book_core.specs.Held.{contents_of}
-use Rattle.tree_core.specs.Count.{size_of}
 use Rattle.tree_core.specs.Formula.{tree_of}
 use Rattle.tree_core.specs.Tree.{Tree}
-use Rattle.value_json.specs.Fields.{◌>>=◌}
+use Rattle.units_core.specs.Formats.{parts_of}
+use Rattle.units_core.specs.declared.formats.FirstPart.{FirstPart}
+use Rattle.units_core.specs.declared.locale.Locale.{Locale}
+use Rattle.option_json.specs.Options.{options_in}
+use Rattle.option_json.specs.declared.options.Options.{Options}
 use Rattle.value_json.specs.Objects.{has_only}
-use Rattle.value_json.specs.Texts.{texts_in}
-use Rattle.value_json.specs.declared.error.FormError.{FormError}
-use Rattle.value_json.specs.declared.error.FormError.TheVariants.{Memory, NotOfForm}
-use Rattle.formula_json.specs.Formula.{node_of}
-use Rattle.request_core.specs.Cells.{book_with, cells_in, position_in}
+use Rattle.request_core.specs.Question.{question_in}
+use Rattle.request_core.specs.Showing.{showing_in}
 use Rattle.request_core.specs.Text.{data_of}
 use Rattle.request_core.specs.declared.request.Request.{Request}
 use Rattle.request_core.specs.declared.request.TheConstants.{KEYS}
-
-unfoldable pub sheets_in : Data → Option (List (List ℕ))
-sheets_in datum = do
-  texts ← texts_in datum
-  if nat_lt (length texts) (2 ^ 32) then Some texts else None
-
-unfoldable pub formula_in : Data → Option Tree
-formula_in datum = do
-  formula ← node_of datum
-  if nat_le (size_of formula) 16777216 then Some formula else None
 
 pub record Asked : Type 0 where
   pub book : Contents
   pub cell : CellReferenceIndex
   pub formula : Tree
+  pub first_part : List ℕ → FirstPart
+  pub locale : Locale
+  pub options : Options
+
+abbrev pub asking : Contents × CellReferenceIndex × Tree → (List ℕ → FirstPart) × Locale → Options → Asked
+asking question showing options = record {
+  book = question.0;
+  cell = question.1;
+  formula = question.2;
+  first_part = showing.0;
+  locale = showing.1;
+  options = options;
+}
 
 unfoldable pub asked_in : Data → Option Asked
 asked_in datum = do
   known ← has_only (map (λ key. key.now) KEYS) datum
-  sheets ← get (codes "sheets") datum >>= sheets_in
-  cells ← get (codes "cells") datum >>= cells_in (length sheets)
-  cell ← get (codes "cell") datum >>= position_in
-  formula ← get (codes "formula") datum >>= formula_in
-  Some (record { book = book_with sheets cells; cell = cell; formula = formula })
+  question ← question_in datum
+  showing ← showing_in datum
+  options ← options_in datum
+  Some (asking question showing options)
 
 unfoldable pub request_of : List ℕ → Option Asked
 request_of bytes = do
   datum ← data_of bytes
   asked_in datum
 
-pub record Keeps (request : Request) (asked : Asked) : Type 0 where
-  pub book : contents_of request.book ≡ asked.book
-  pub cell : request.cell ≡ asked.cell
-  pub formula : tree_of request.formula ≡ asked.formula
-
-abbrev pub Reads : Result Request FormError → Option Asked → Type 0
-Reads (Ok request) there = (asked : Asked) × (there ≡ Some asked) × Keeps request asked
-Reads (Err NotOfForm) there = there ≡ None
-Reads (Err Memory) there = ⊤
+abbrev pub asked_of : Request → Asked
+asked_of request = asking (contents_of request.book, request.cell, tree_of request.formula) (parts_of request.formats, request.locale) request.options

@@ -1,23 +1,26 @@
-ghost use Rattle.std.specs.Prelude.{◌≡◌, ◌<◌, ◌≤◌, IfOk, length};
+ghost use Rattle.std.specs.Prelude.{◌≤◌, IfOk};
 ghost use Rattle.serde_json.specs.View.{view};
 ghost use Rattle.tree_core.specs.Count.{size_of};
 ghost use Rattle.tree_core.specs.Formula.{tree_of};
-ghost use Rattle.value_json.specs.Reading.{Gives, GivesBy};
-ghost use Rattle.request_core.specs.Request.{Reads, sheets_in, formula_in, asked_in, request_of};
+ghost use Rattle.value_json.specs.Reading.{GivesBy};
+ghost use Rattle.request_core.specs.Request.{asked_in, asked_of, request_of};
 
-use crate::book::read_book;
-use crate::cell::read_position;
+use crate::question::read_question;
+use crate::showing::read_showing;
 use crate::text::parse;
 use book_core::MemoryBook;
-use formula_json::read_node;
+use option_json::{Options, read_options};
 use serde_json::Value;
 use std::alloc::Global;
 use tree_core::Node;
-use value_core::{CellReferenceIndex, Texts};
-use value_json::{FormError, check_keys, member, read_texts};
+use units_core::{Locale, MapFormats};
+use value_core::CellReferenceIndex;
+use value_json::{FormError, check_keys};
 
-/// The keys of a request.
-pub static KEYS: [&str; 4] = ["sheets", "cells", "cell", "formula"];
+/// The keys of a request: four that it must have, two that say how values are shown, and three that say how it is answered.
+pub static KEYS: [&str; 9] = [
+    "sheets", "cells", "cell", "formula", "formats", "locale", "version", "rule", "limit",
+];
 
 /// What is asked for.
 #[derive(Debug, Drop)]
@@ -28,13 +31,20 @@ pub struct Request {
     pub cell: CellReferenceIndex,
     /// The formula to answer.
     pub formula: Node,
+    /// What is known of number formats.
+    pub formats: MapFormats,
+    /// How the country writes amounts of money, dates and times.
+    pub locale: Locale,
+    /// The rule of import, and the limit of cells.
+    pub options: Options,
 }
 
 /// The request that the bytes of a JSON text are.
 #[tactic(auto, unfolding(crate::specs::Request::request_of))]
 pub fn read_request(alloc: Global, bytes: &[u8]) -> Result<Request, FormError>
-    ensures found { Reads result (request_of bytes.now) }
+    ensures found { GivesBy asked_of result (request_of bytes.now) }
     ensures most { IfOk result (λ request. size_of (tree_of request.formula) ≤ 16777216) }
+    ensures limited { IfOk result (λ request. request.options.limit ≤ 16777216) }
 {
     let value = parse(alloc, bytes)?;
     let request = read_value(alloc, &value)?;
@@ -43,45 +53,20 @@ pub fn read_request(alloc: Global, bytes: &[u8]) -> Result<Request, FormError>
 
 #[tactic(auto, unfolding(crate::specs::Request::asked_in))]
 fn read_value(alloc: Global, value: &Value) -> Result<Request, FormError>
-    ensures found { Reads result (asked_in (view value.now)) }
+    ensures found { GivesBy asked_of result (asked_in (view value.now)) }
     ensures most { IfOk result (λ request. size_of (tree_of request.formula) ≤ 16777216) }
+    ensures limited { IfOk result (λ request. request.options.limit ≤ 16777216) }
 {
     check_keys(value, &KEYS)?;
-    let sheets = read_sheets(alloc, member(value, "sheets")?)?;
-    let book = read_book(alloc, sheets, member(value, "cells")?)?;
-    let cell = read_position(member(value, "cell")?)?;
-    let formula = read_formula(alloc, member(value, "formula")?)?;
+    let question = read_question(alloc, value)?;
+    let showing = read_showing(alloc, value)?;
+    let options = read_options(value)?;
     Ok(Request {
-        book,
-        cell,
-        formula,
+        book: question.book,
+        cell: question.cell,
+        formula: question.formula,
+        formats: showing.formats,
+        locale: showing.locale,
+        options,
     })
-}
-
-/// At most 2^32 - 1 texts.
-#[tactic(auto, unfolding(crate::specs::Request::sheets_in))]
-fn read_sheets(alloc: Global, value: &Value) -> Result<Texts, FormError>
-    ensures found { Gives result (sheets_in (view value.now)) }
-    ensures few { IfOk result (λ sheets. length sheets < 4294967296) }
-{
-    let sheets = read_texts(alloc, value)?;
-    if sheets.len() <= u32::MAX as usize {
-        Ok(sheets)
-    } else {
-        Err(FormError::NotOfForm)
-    }
-}
-
-/// A formula of at most 16777216 nodes.
-#[tactic(auto, unfolding(crate::specs::Request::formula_in))]
-fn read_formula(alloc: Global, value: &Value) -> Result<Node, FormError>
-    ensures found { GivesBy tree_of result (formula_in (view value.now)) }
-    ensures most { IfOk result (λ node. size_of (tree_of node) ≤ 16777216) }
-{
-    let node = read_node(alloc, value)?;
-    if node.has_at_most(16777216) {
-        Ok(node)
-    } else {
-        Err(FormError::NotOfForm)
-    }
 }

@@ -1,8 +1,10 @@
 use crate::{FormError, Request, read_request};
 use book_core::{Book, Reads};
+use intersect::ImportRule;
 use std::alloc::{AllocError, Global};
 use std::test::Fail;
 use tree_core::{Node, Plain, Steps};
+use units_core::{FirstPart, Formats};
 use value_core::{ArrayNode, CellReferenceIndex};
 
 fn with_cells(alloc: Global, cells: &str) -> Result<String, AllocError> {
@@ -92,7 +94,7 @@ fn other_cells_are_refused(rt: HostRuntime) -> Result<(), Fail> {
 }
 
 /// Texts that are no request.
-static OTHER_TEXTS: [&str; 17] = [
+static OTHER_TEXTS: [&str; 24] = [
     "",
     " \t\r\n ",
     "null",
@@ -110,6 +112,13 @@ static OTHER_TEXTS: [&str; 17] = [
     r#"{"sheets":[],"cells":[],"cell":[0,2147483648,1],"formula":["num",1]}"#,
     r#"{"sheets":[],"cells":[],"cell":[0,1,null],"formula":["num",1]}"#,
     r#"{"sheets":[],"cells":[],"cell":[0,1,1],"formula":["num",1],"formula":7}"#,
+    r#"{"sheets":[],"cells":[],"cell":[0,1,1],"formula":["num",1],"formats":[]}"#,
+    r#"{"sheets":[],"cells":[],"cell":[0,1,1],"formula":["num",1],"formats":{"0":"dates"}}"#,
+    r#"{"sheets":[],"cells":[],"cell":[0,1,1],"formula":["num",1],"locale":{"currency_symbol":"$"}}"#,
+    r#"{"sheets":[],"cells":[],"cell":[0,1,1],"formula":["num",1],"version":3}"#,
+    r#"{"sheets":[],"cells":[],"cell":[0,1,1],"formula":["num",1],"version":2,"limit":0}"#,
+    r#"{"sheets":[],"cells":[],"cell":[0,1,1],"formula":["num",1],"version":2,"rule":"none"}"#,
+    r#"{"sheets":[],"cells":[],"cell":[0,1,1],"formula":["num",1],"limit":7}"#,
 ];
 
 #[test]
@@ -132,6 +141,34 @@ fn the_last_of_equal_keys_counts(rt: HostRuntime) -> Result<(), Fail> {
     let text = r#"{"formula":7,"sheets":[],"cells":[],"cell":[0,1,1],"formula":["num",1]}"#;
     let request = read(rt.alloc(), text)?;
     assert_eq!(rt; request.formula, Node::NumberKind(1));
+    Ok(())
+}
+
+const SHOWN: &str =
+    r##"{"sheets":[],"cells":[],"cell":[0,1,1],"formula":["num",1],"version":2,"rule":"every-scalar","limit":7,"formats":{"0%":"general","d":"date","d":"error"},"locale":{"currency_symbol":"€","currency_standard":"#,##0.00 ¤","date_short":"dd.MM.yy","time_short":"HH:mm","date_time_short":"{1}, {0}"}}"##;
+
+#[test]
+fn a_request_says_how_it_is_shown_and_answered(rt: HostRuntime) -> Result<(), Fail> {
+    let request = read(rt.alloc(), SHOWN)?;
+    assert!(rt; request.formats.first_part("0%") == FirstPart::General);
+    assert!(rt; request.formats.first_part("d") == FirstPart::Error);
+    assert!(rt; request.formats.first_part("0") == FirstPart::None);
+    assert_eq!(rt; request.locale.currency_symbol.as_str(), "€");
+    assert_eq!(rt; request.locale.date_short.as_str(), "dd.MM.yy");
+    assert!(rt; request.options.rule == ImportRule::EveryScalar);
+    assert_eq!(rt; request.options.limit, 7);
+    Ok(())
+}
+
+#[test]
+fn a_request_may_leave_much_unsaid(rt: HostRuntime) -> Result<(), Fail> {
+    let text = r#"{"sheets":[],"cells":[],"cell":[0,1,1],"formula":["num",1]}"#;
+    let request = read(rt.alloc(), text)?;
+    assert!(rt; request.formats.first_part("0%") == FirstPart::None);
+    assert_eq!(rt; request.locale.currency_symbol.as_str(), "$");
+    assert_eq!(rt; request.locale.time_short.as_str(), "h:mm a");
+    assert!(rt; request.options.rule == ImportRule::AsCrate);
+    assert_eq!(rt; request.options.limit, 1000000);
     Ok(())
 }
 

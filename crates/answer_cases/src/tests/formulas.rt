@@ -131,7 +131,7 @@ fn formulas_are_imported_and_exported_to_the_byte(rt: HostRuntime) -> Result<(),
             "{{\"sheets\":[\"Sheet1\"],\"cells\":[],\"cell\":[0,3,3],\"formula\":{formula}}}"
         )?;
         let line = format!(in alloc;
-            "{{\"exported\":{exported},\"given_shape\":\"{given_shape}\",\"imported\":{imported},\"imported_shape\":\"{imported_shape}\",{values}}}\n"
+            "{{\"exported\":{exported},\"given_shape\":\"{given_shape}\",\"imported\":{imported},\"imported_shape\":\"{imported_shape}\",{values},\"unit\":null}}\n"
         )?;
         assert!(rt;
             answers(alloc, request.as_str(), line.as_str())?,

@@ -215,7 +215,7 @@ fn functions_of_arrays_have_their_values(rt: HostRuntime) -> Result<(), Fail> {
         let request = format!(in alloc;
             "{{\"sheets\":[\"Sheet1\"],\"cells\":{NUMBERS},\"cell\":[0,1,6],\"formula\":{formula}}}"
         )?;
-        let end = format!(in alloc; "\"spilled\":{spilled}}}\n")?;
+        let end = format!(in alloc; "\"spilled\":{spilled},\"unit\":null}}\n")?;
         assert!(rt;
             answers_in(alloc, request.as_str(), end.as_str())?,
             "{formula}"

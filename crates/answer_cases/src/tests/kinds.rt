@@ -214,6 +214,6 @@ fn has_value(
     let request = format!(in alloc;
         "{{\"sheets\":[\"Sheet1\"],\"cells\":[[0,1,1,3000000],[0,2,1,\"4\"]],\"cell\":[0,1,6],\"formula\":[\"call\",\"{kind}\",{form}{behind}]}}"
     )?;
-    let end = format!(in alloc; "\"spilled\":[[{rows}]]}}\n")?;
+    let end = format!(in alloc; "\"spilled\":[[{rows}]],\"unit\":null}}\n")?;
     answers_in(alloc, request.as_str(), end.as_str())
 }

@@ -275,7 +275,7 @@ fn functions_of_references_and_texts_have_their_values(rt: HostRuntime) -> Resul
         let request = format!(in alloc;
             "{{\"sheets\":[\"Sheet1\"],\"cells\":{NUMBERS},\"cell\":{cell},\"formula\":{formula}}}"
         )?;
-        let end = format!(in alloc; "\"spilled\":{spilled}}}\n")?;
+        let end = format!(in alloc; "\"spilled\":{spilled},\"unit\":null}}\n")?;
         assert!(rt;
             answers_in(alloc, request.as_str(), end.as_str())?,
             "{formula}"

@@ -149,7 +149,7 @@ fn formulas_have_their_values(rt: HostRuntime) -> Result<(), Fail> {
         let request = format!(in alloc;
             "{{\"sheets\":[\"Sheet1\"],\"cells\":{NUMBERS},\"cell\":{cell},\"formula\":{formula}}}"
         )?;
-        let end = format!(in alloc; "\"legacy\":{legacy},\"spilled\":{spilled}}}\n")?;
+        let end = format!(in alloc; "\"legacy\":{legacy},\"spilled\":{spilled},\"unit\":null}}\n")?;
         assert!(rt;
             answers_in(alloc, request.as_str(), end.as_str())?,
             "{formula}"

@@ -14,6 +14,11 @@ returns-in_err-values-clause-counted g c =
     asked-shapes (calls_of (tree_of c.args.node.now)) _ _ _ _ _ (imported-calls _ _ _ _ c.in_ok-formulas.ensures.made.import)
     c.in_ok-formulas.ensures.counted c.in_ok-shapes.ensures.counted
 
+pub returns-in_err-unit-clause-counted : goal.returns-in_err-unit-clause-counted
+returns-in_err-unit-clause-counted g c =
+    asked-shapes (calls_of (tree_of c.args.node.now)) _ _ _ _ _ (imported-calls _ _ _ _ c.in_ok-formulas.ensures.made.import)
+    c.in_ok-formulas.ensures.counted c.in_ok-shapes.ensures.counted
+
 pub returns-clause-counted : goal.returns-clause-counted
 returns-clause-counted g c =
     asked-shapes (calls_of (tree_of c.args.node.now)) _ _ _ _ _ (imported-calls _ _ _ _ c.in_ok-formulas.ensures.made.import)
