@@ -124,12 +124,16 @@ fn show(
     at: CellReferenceIndex,
     num_fmt: &str,
 ) -> Result<(), Memory> {
-    let num_fmt = if num_fmt.is_empty() {
-        None
-    } else {
-        Some(Text::from_text(alloc, num_fmt)?)
-    };
+    let num_fmt = text_or_none(alloc, num_fmt)?;
     book.set(at, ArrayNode::Number(1000000), num_fmt, None)
+}
+
+fn text_or_none(alloc: Global, text: &str) -> Result<Option<Text>, Memory> {
+    if text.is_empty() {
+        Ok(None)
+    } else {
+        Ok(Some(Text::from_text(alloc, text)?))
+    }
 }
 
 /// A book of two sheets without cells.

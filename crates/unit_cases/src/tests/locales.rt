@@ -67,7 +67,7 @@ fn payments_are_in_the_currency_of_the_locale(rt: HostRuntime) -> Result<(), Fai
         let wanted = Currency(true, 2, num_fmt, sign);
         assert!(rt;
             has(rt.alloc(), texts, r#"["call","PMT"]"#, wanted)?,
-            "{standard}"
+            "{sign} {standard}"
         );
     }
     Ok(())
@@ -148,7 +148,7 @@ fn now_is_a_date_with_its_time(rt: HostRuntime) -> Result<(), Fail> {
         let texts = ("$", "¤0", date, time, both);
         assert!(rt;
             has(rt.alloc(), texts, r#"["call","NOW"]"#, Date(num_fmt))?,
-            "{both}"
+            "{date} {time} {both}"
         );
     }
     Ok(())
