@@ -20,7 +20,8 @@ mod sums;
 mod unit_parts;
 mod written_units;
 
-/// What a unit says: whether thousands are set apart, the digits behind the point, the number format, and the currency's sign.
+/// What a unit says: whether thousands are set apart, the digits behind the point, the number
+/// format, and the currency's sign.
 #[derive(Clone, Copy, Debug, PartialEq)]
 enum Parts<'a> {
     Nothing,
@@ -64,8 +65,8 @@ fn parts_of(unit: &Option<Units>) -> Parts {
     }
 }
 
-/// Number formats, each with the count of its percent signs, whether thousands are set apart, and the digits behind the point. The
-/// last six only stand for formats with so many digits.
+/// Number formats, each with the count of its percent signs, whether thousands are set apart, and
+/// the digits behind the point. The last six only stand for formats with so many digits.
 static NUMBERS: [(&str, u32, bool, i32); 25] = [
     ("0", 0, false, 0),
     ("0.0", 0, false, 1),

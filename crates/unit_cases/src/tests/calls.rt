@@ -36,7 +36,8 @@ fn kinds_have_the_units_of_their_classes(rt: HostRuntime) -> Result<(), Fail> {
     Ok(())
 }
 
-/// Whether calls of a kind, without arguments, over A1 and over A1 and B1, have a unit. These cells hold euros and a percentage.
+/// Whether calls of a kind, without arguments, over A1 and over A1 and B1, have a unit. These
+/// cells hold euros and a percentage.
 fn call_has(alloc: Global, name: &str, wanted: Parts) -> Result<bool, Fail> {
     Ok(
         call_over(alloc, name, "", wanted)?
@@ -125,7 +126,8 @@ static WITHOUT: [&str; 67] = [
     "DATEVALUE",
 ];
 
-/// Calls over A1 and B1, which hold euros and a percentage, whose unit is that of their first argument or comes of it.
+/// Calls over A1 and B1, which hold euros and a percentage, whose unit is that of their first
+/// argument or comes of it.
 static FIRST_ARGUMENTS: [(&str, Parts); 22] = [
     (
         r#"["call","SUM",["ref",0,null,true,true,1,1]]"#,

@@ -12,7 +12,8 @@ const FORMATS: &str =
 const LOCALE: &str =
     r##"{"currency_symbol":"€","currency_standard":"#,##0.00\u00a0¤","date_short":"dd.MM.yy","time_short":"HH:mm","date_time_short":"{1}, {0}"}"##;
 
-/// Formulas of A1, which holds whole dollars, and B1, which holds a percentage, and what is written of their units.
+/// Formulas of A1, which holds whole dollars, and B1, which holds a percentage, and what is
+/// written of their units.
 static FORMULAS: [(&str, &str); 6] = [
     (
         r#"["mul",["ref",0,null,true,true,1,1],["ref",0,null,true,true,1,2]]"#,

@@ -5,7 +5,8 @@ use std::test::Fail;
 use units_core::Locale;
 use value_core::{Memory, Text};
 
-/// The texts of a locale: the sign of its currency, the format of an amount, of a date, of a time, and of both.
+/// The texts of a locale: the sign of its currency, the format of an amount, of a date, of a time,
+/// and of both.
 type LocaleTexts = (
     &'static str,
     &'static str,
@@ -110,7 +111,8 @@ fn dates_have_four_digits_of_the_year(rt: HostRuntime) -> Result<(), Fail> {
     Ok(())
 }
 
-/// The formats of a short date, of a short time, and of both, and the number format of a date with its time.
+/// The formats of a short date, of a short time, and of both, and the number format of a date with
+/// its time.
 static TIMES: [(&str, &str, &str, &str); 22] = [
     ("m/d/yy", "h:mm a", "{1}, {0}", "m/d/yyyy, h:mm AM/PM"),
     ("dd/MM/yyyy", "HH:mm", "{1} {0}", "dd/MM/yyyy HH:mm"),

@@ -6,8 +6,8 @@ use std::test::Fail;
 use units_core::Locale;
 use value_core::Memory;
 
-/// The number formats of some cells, each by its sheet, row and column. Of the one in A2 nothing is known; the last four cells lie
-/// beside the sheet.
+/// The number formats of some cells, each by its sheet, row and column. Of the one in A2 nothing
+/// is known; the last four cells lie beside the sheet.
 static CELLS: [(u32, i32, i32, &str); 13] = [
     (0, 1, 1, "$#,##0"),
     (0, 1, 2, "0%"),
@@ -120,8 +120,8 @@ fn shows(alloc: Global, text: &str, wanted: Parts) -> Result<bool, Fail> {
     Ok(parts_of(&unit) == wanted)
 }
 
-/// Literals and names, which have no unit.
-static OTHER_LEAVES: [&str; 14] = [
+/// Literals, names, a named call and a lambda, which have no unit.
+static OTHER_NODES: [&str; 14] = [
     r#"["bool",true]"#,
     r#"["num",1000000]"#,
     r#"["text","$1"]"#,
@@ -140,7 +140,7 @@ static OTHER_LEAVES: [&str; 14] = [
 
 #[test]
 fn other_nodes_have_none(rt: HostRuntime) -> Result<(), Fail> {
-    for &text in &OTHER_LEAVES {
+    for &text in &OTHER_NODES {
         assert!(rt; shows(rt.alloc(), text, Nothing)?, "{text}");
     }
     for &tag in &OTHER_TAGS {

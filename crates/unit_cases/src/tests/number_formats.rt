@@ -7,8 +7,8 @@ use value_core::{Memory, Text};
 
 const REFERENCE: &str = r#"["ref",0,null,true,true,1,1]"#;
 
-/// Number formats of numbers: the count of percent signs, whether thousands are set apart, the digits behind the point, and the
-/// unit of a cell that is shown so.
+/// Number formats of numbers: the count of percent signs, whether thousands are set apart, the
+/// digits behind the point, and the unit of a cell that is shown so.
 static NUMBERS: [(&str, u32, bool, i32, Parts); 22] = [
     ("0", 0, false, 0, Number(false, 0, "0")),
     ("#,##0.00", 0, true, 2, Number(true, 2, "#,##0.00")),
