@@ -4,7 +4,7 @@
 -- `formula_in`   the formula: a node, of at most 16777216 nodes in all
 -- `question_in`  what the book holds, the formula's cell, and the formula
 -- `question_of`  these three of a question that was read
-use Rattle.std.specs.Prelude.{ℕ, ◌^◌, ◌×◌, List, length, codes, nat_lt, nat_le, if◌then◌else◌, Option, Some, None}
+use Rattle.std.specs.Prelude.{ℕ, ◌^◌, List, length, codes, nat_lt, nat_le, if◌then◌else◌, Option, Some, None}
 use Rattle.serde_json.specs.Data.{Data}
 use Rattle.serde_json.specs.Find.{get}
 use Rattle.value_core.specs.declared.position.CellReferenceIndex.{CellReferenceIndex}

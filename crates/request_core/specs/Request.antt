@@ -6,7 +6,7 @@
 -- `asked_in`    what a JSON value asks for
 -- `request_of`  what bytes ask for
 -- `asked_of`    what a request asks for that was read
-use Rattle.std.specs.Prelude.{ℕ, ◌×◌, List, map, Option, Some}
+use Rattle.std.specs.Prelude.{ℕ, List, map, Option, Some}
 use Rattle.serde_json.specs.Data.{Data}
 use Rattle.value_core.specs.declared.position.CellReferenceIndex.{CellReferenceIndex}
 use Rattle.book_core.specs.Contents.{Contents}
@@ -18,6 +18,7 @@ use Rattle.units_core.specs.declared.formats.FirstPart.{FirstPart}
 use Rattle.units_core.specs.declared.locale.Locale.{Locale}
 use Rattle.option_json.specs.Options.{options_in}
 use Rattle.option_json.specs.declared.options.Options.{Options}
+use Rattle.value_json.specs.Fields.{◌>>=◌}
 use Rattle.value_json.specs.Objects.{has_only}
 use Rattle.request_core.specs.Question.{question_in}
 use Rattle.request_core.specs.Showing.{showing_in}

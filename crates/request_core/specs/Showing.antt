@@ -5,7 +5,7 @@
 -- `locale_or`      the locale that stands at its key; without it the standard one
 -- `showing_in`     both
 -- `showing_of`     both, as they were read
-use Rattle.std.specs.Prelude.{ℕ, ◌×◌, List, codes, Option, Some, None}
+use Rattle.std.specs.Prelude.{ℕ, List, codes, Option, Some, None}
 use Rattle.serde_json.specs.Data.{Data}
 use Rattle.serde_json.specs.Find.{get}
 use Rattle.units_core.specs.Formats.{parts_of}
