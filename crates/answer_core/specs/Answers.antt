@@ -2,13 +2,11 @@
 --   Answers         in a setting and by a rule of import, where one value is wanted of the whole: one formula is the imported one,
 --                   and the other an export of it; the shapes and the values are those of the given and of the imported formula;
 --                   the display unit is that of the given one
---   Shown, shown_by  what is known of number formats, and the locale
---   unit_setting    what the unit is found by: these two, and what the formula stands in
 --   FitTheirShapes  both values are rectangles; that of the given formula is no larger than the given shape says, and that of the
 --                   imported one no larger than the imported shape
 --   Judges          an answer, or want of memory, where no place of the formula is bad; else the first bad one
 --   most_questions  how often the table of kinds is asked at most
-use Rattle.std.specs.Prelude.{◌≡◌, ℕ, ◌+◌, ◌*◌, true, List, Option, None, Some, Result, Ok, Err}
+use Rattle.std.specs.Prelude.{◌≡◌, ℕ, ◌+◌, ◌*◌, true, Option, None, Some, Result, Ok, Err}
 use Rattle.rectangle_core.specs.Rectangle.{height, IsRectangle, width}
 use Rattle.kind_table.specs.Fit.{SizeFits}
 use Rattle.kind_table.specs.Table.{Table}
@@ -26,20 +24,9 @@ use Rattle.eval_core.specs.Setting.{Setting}
 use Rattle.eval_core.specs.declared.fault.Fault.{Fault}
 use Rattle.eval_core.specs.declared.fault.Fault.TheVariants.{BadRequest, Memory}
 use Rattle.units_core.specs.Unit as units
-use Rattle.units_core.specs.declared.formats.FirstPart.{FirstPart}
-use Rattle.units_core.specs.declared.locale.Locale.{Locale}
 use Rattle.validity_core.specs.declared.place.Place.{Place}
 use Rattle.print_core.specs.declared.answer.Answer.{Answer}
-
-pub record Shown : Type 0 where
-  pub first_part : List ℕ → FirstPart
-  pub locale : Locale
-
-abbrev pub shown_by : (List ℕ → FirstPart) → Locale → Shown
-shown_by first_part locale = record { first_part = first_part; locale = locale }
-
-abbrev pub unit_setting : Setting → Shown → units.Setting
-unit_setting here shown = units.setting here.table here.book.num_fmt shown.first_part shown.locale here.cell
+use Rattle.answer_core.specs.Shown.{Shown, unit_setting}
 
 pub record Answers (rule : ImportRule) (here : Setting) (shown : Shown) (formula : Tree) (answer : Answer) : Type 0 where
   pub import : Imported (import_rule rule here.table) true formula (tree_of answer.imported)

@@ -33,7 +33,8 @@ use Rattle.answer_core.specs.declared.refusal.Refusal.{Refusal}
 use Rattle.answer_core.specs.declared.refusal.Refusal.TheVariants.{Usage, ReadFault, TooLong, BadJson, BadRequest, Memory}
 use Rattle.answer_core.specs.declared.status.Status.{Status}
 use Rattle.answer_core.specs.declared.status.Status.TheVariants as status
-use Rattle.answer_core.specs.Answers.{Answers, Shown, shown_by}
+use Rattle.answer_core.specs.Answers.{Answers}
+use Rattle.answer_core.specs.Shown.{Shown, shown_by}
 use Rattle.answer_core.specs.Refusal.{line_of}
 
 pub record Trace : Type 0 where

@@ -3,8 +3,9 @@ ghost use Rattle.tree_core.specs.Count.{calls_of, size_of};
 ghost use Rattle.tree_core.specs.Formula.{tree_of};
 ghost use Rattle.validity_core.specs.Place.{bad_place};
 ghost use Rattle.eval_core.specs.Setting.{setting};
-ghost use Rattle.answer_core.specs.Answers.{Answers, FitTheirShapes, Judges, most_questions, shown_by};
-ghost use Rattle.answer_core.specs.Parts.{AreFormulas, AreRectangles, AreShapes, AreValues, formula_questions};
+ghost use Rattle.answer_core.specs.Answers.{Answers, FitTheirShapes, Judges, most_questions};
+ghost use Rattle.answer_core.specs.Shown.{shown_by};
+ghost use Rattle.answer_core.specs.Parts.{AreFormulas, AreMeant, AreRectangles, AreShapes, AreValues, AreWritten, formula_questions};
 
 use book_core::Reads;
 use eval_core::{Evaluator, Fault, valid};
@@ -15,7 +16,7 @@ use rectangle_core::Grid;
 use shape_core::run_static_analysis_on_node;
 use std::alloc::Global;
 use tree_core::{CellReferenceIndex, Memory, Node, Plain, Steps};
-use units_core::{Formats, Locale, compute_node_units};
+use units_core::{Formats, Locale, Units, compute_node_units};
 
 /// The answer to a formula in a cell of a book, by a table of kinds and a rule of import; `limit`, at most 16777216, is
 /// the greatest number of cells of an array that a function makes. Its display unit is found by what is known of number formats
@@ -76,19 +77,37 @@ fn answer_of<K: Asks<L>, B: Reads<Plain>, F: Formats, L>(
     ensures fits { IfOk result FitTheirShapes }
     ensures counted { steps.new ≤ steps.old + most_questions rule (K.table kinds.now) (tree_of node.now) }
 {
-    let formulas = formulas_of(alloc, kinds, rule, node, steps)?;
-    let shapes = shapes_of(alloc, kinds, node, &formulas.imported, steps)?;
-    let values = values_of(alloc, kinds, book, limit, cell, node, &formulas.imported)?;
-    let unit = compute_node_units(alloc, node, cell, kinds, book, formats, locale)?;
+    let written = written_of(alloc, kinds, rule, node, steps)?;
+    let imported = &written.imported;
+    let meant = meant_of(
+        alloc, kinds, book, formats, locale, limit, cell, node, imported,
+    )?;
     Ok(Answer {
-        exported: formulas.exported,
-        given_shape: shapes.given,
-        imported: formulas.imported,
-        imported_shape: shapes.imported,
-        legacy: values.legacy,
-        spilled: values.spilled,
-        unit,
+        exported: written.exported,
+        given_shape: written.given_shape,
+        imported: written.imported,
+        imported_shape: written.imported_shape,
+        legacy: meant.legacy,
+        spilled: meant.spilled,
+        unit: meant.unit,
     })
+}
+
+/// What an answer says of a formula by the table of kinds alone.
+#[derive(Drop)]
+pub(crate) struct Written {
+    imported: Node,
+    exported: Node,
+    given_shape: StaticResult,
+    imported_shape: StaticResult,
+}
+
+/// What it says of its meaning.
+#[derive(Drop)]
+pub(crate) struct Meant {
+    spilled: Grid,
+    legacy: Grid,
+    unit: Option<Units>,
 }
 
 /// The formulas of an answer.
@@ -110,6 +129,51 @@ pub(crate) struct Shapes {
 pub(crate) struct Values {
     spilled: Grid,
     legacy: Grid,
+}
+
+fn written_of<K: Asks<L>, L>(
+    alloc: Global,
+    kinds: &K,
+    rule: ImportRule,
+    node: &Node,
+    steps: &mut Steps<L>,
+) -> Result<Written, Memory>
+    requires countable { 2 * size_of (tree_of node.now) < 2 ^ 64 }
+    ensures made { IfOk result (AreWritten rule (K.table kinds.now) (tree_of node.now)) }
+    ensures counted { steps.new ≤ steps.old + most_questions rule (K.table kinds.now) (tree_of node.now) }
+{
+    let formulas = formulas_of(alloc, kinds, rule, node, steps)?;
+    let shapes = shapes_of(alloc, kinds, node, &formulas.imported, steps)?;
+    Ok(Written {
+        imported: formulas.imported,
+        exported: formulas.exported,
+        given_shape: shapes.given,
+        imported_shape: shapes.imported,
+    })
+}
+
+fn meant_of<K: Kinds, B: Reads<Plain>, F: Formats>(
+    alloc: Global,
+    kinds: &K,
+    book: &B,
+    formats: &F,
+    locale: &Locale,
+    limit: usize,
+    cell: CellReferenceIndex,
+    given: &Node,
+    imported: &Node,
+) -> Result<Meant, Memory>
+    requires limited { limit ≤ 16777216 }
+    ensures made { IfOk result (AreMeant (setting (K.table kinds.now) (B.contents book.now) limit cell)
+        (shown_by (F.first_part formats.now) locale.now) (tree_of given.now) (tree_of imported.now)) }
+{
+    let values = values_of(alloc, kinds, book, limit, cell, given, imported)?;
+    let unit = compute_node_units(alloc, given, cell, kinds, book, formats, locale)?;
+    Ok(Meant {
+        spilled: values.spilled,
+        legacy: values.legacy,
+        unit,
+    })
 }
 
 fn formulas_of<K: Asks<L>, L>(
