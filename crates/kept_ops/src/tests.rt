@@ -5,6 +5,8 @@ use std::alloc::Global;
 use std::test::Fail;
 use value_core::{ArrayNode, CellReferenceIndex, Error, Memory, Rows, Text};
 
+mod long_columns;
+
 static CELL: CellReferenceIndex = CellReferenceIndex {
     sheet: 0,
     row: 1,
