@@ -64,13 +64,13 @@ count_of (more t ts) = suc (count_of ts)
 abbrev mutual
   pub is_plain_nest : Tree → Bool
   is_plain_nest (tree [] (leaf l) ts) = is_array_leaf l
-  is_plain_nest (tree [] (call kind) ts) = is_nest_kind kind && are_arguments (arrays_of kind (count_of ts)) ts
+  is_plain_nest (tree [] (call kind) ts) = is_nest_kind kind && are_arguments ts (arrays_of kind (count_of ts))
   is_plain_nest t = false
 
-  pub are_arguments : ℕ → Trees → Bool
-  are_arguments arrays none = true
-  are_arguments zero (more t ts) = is_literal t && are_arguments zero ts
-  are_arguments (suc arrays) (more t ts) = is_plain_nest t && are_arguments arrays ts
+  pub are_arguments : Trees → ℕ → Bool
+  are_arguments none arrays = true
+  are_arguments (more t ts) zero = is_literal t && are_arguments ts zero
+  are_arguments (more t ts) (suc arrays) = is_plain_nest t && are_arguments ts arrays
 
 abbrev pub is_argument : Bool → Tree → Bool
 is_argument array t = if array then is_plain_nest t else is_literal t

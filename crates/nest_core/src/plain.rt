@@ -10,7 +10,7 @@ fn is_literal_leaf(leaf: Leaf) -> bool
     ensures { result ≡ is_literal_leaf (leaf_in leaf.entry) }
 {
     matches!(
-        &leaf,
+        leaf,
         Leaf::Boolean(_) | Leaf::Number(_) | Leaf::Text(_) | Leaf::Error(_) | Leaf::Empty
     )
 }
@@ -21,7 +21,12 @@ fn is_bare_literal(node: &Node) -> bool
 {
     match node.view() {
         View::Leaf(leaf) => is_literal_leaf(leaf),
-        _ => false,
+        View::Closed(_)
+        | View::Unary { .. }
+        | View::Binary { .. }
+        | View::Spill { .. }
+        | View::Call { .. }
+        | View::Intersection { .. } => false,
     }
 }
 
@@ -36,14 +41,22 @@ fn is_literal(node: &Node) -> bool
             kind: OpUnary::Minus,
             right,
         } => is_bare_literal(right),
-        _ => false,
+        View::Unary {
+            kind: OpUnary::Percentage,
+            ..
+        } => false,
+        View::Closed(_)
+        | View::Binary { .. }
+        | View::Spill { .. }
+        | View::Call { .. }
+        | View::Intersection { .. } => false,
     }
 }
 
 fn is_array_leaf(leaf: Leaf) -> bool
     ensures { result ≡ is_array_leaf (leaf_in leaf.entry) }
 {
-    matches!(&leaf, Leaf::Range { .. } | Leaf::Array(_))
+    matches!(leaf, Leaf::Range { .. } | Leaf::Array(_))
 }
 
 /// Whether a plain nest may call functions of a kind.
@@ -96,7 +109,11 @@ pub fn is_plain_nest(node: &Node) -> bool
                 false
             }
         }
-        _ => false,
+        View::Closed(_)
+        | View::Unary { .. }
+        | View::Binary { .. }
+        | View::Spill { .. }
+        | View::Intersection { .. } => false,
     }
 }
 
@@ -104,7 +121,7 @@ pub fn is_plain_nest(node: &Node) -> bool
 #[cycle(plain)]
 #[tactic(auto, using(crate::proofs::Plains::plains))]
 fn are_arguments(arrays: usize, nodes: &[Node]) -> bool
-    ensures { result ≡ are_arguments arrays (forest (map tree_of nodes.now)) }
+    ensures { result ≡ are_arguments (forest (map tree_of nodes.now)) arrays }
 {
     for (index, node) in nodes.iter().enumerate() {
         if !is_argument(index < arrays, node) {
@@ -118,5 +135,9 @@ fn are_arguments(arrays: usize, nodes: &[Node]) -> bool
 fn is_argument(array: bool, node: &Node) -> bool
     ensures { result ≡ is_argument array (tree_of node.now) }
 {
-    if array { is_plain_nest(node) } else { is_literal(node) }
+    if array {
+        is_plain_nest(node)
+    } else {
+        is_literal(node)
+    }
 }
