@@ -1,1 +1,5 @@
 pub mod Plains
+pub mod Literals
+pub mod Nests
+pub mod Elements
+pub mod Wholes

@@ -3,6 +3,7 @@
 --   count-forest   how many arguments there are
 --   fit-good, fit-bad, fit-end   arguments one after another
 use Rattle.std.proofs.Common.{◌≡◌, ℕ, zero, suc, ◌+◌, ◌-◌, ◌<◌, ◌≤◌, Bool, true, false, ◌&&◌, nat_lt, List, [], ◌∷◌, drop, map, get_or, length, refl, sym, ap, ◌∙◌, arith}
+use Rattle.std.proofs.lemmas.Bool.{lt-ltb}
 use Rattle.tree_core.specs.Formula.{tree_of}
 use Rattle.tree_core.specs.Tree.{Tree, tree, Trees, none, more, forest, under}
 use Rattle.tree_core.specs.declared.node.Node.{Node}
@@ -26,15 +27,16 @@ abbrev fit : List Node → ℕ → Bool
 fit nodes arrays = are_arguments (forest (map tree_of nodes)) arrays
 
 -- the arguments from one on: it, and those behind it
-fit-first : (node : Node) (nodes : List Node) (arrays : ℕ) → fit (node ∷ nodes) arrays ≡ (is_argument (nat_lt 0 arrays) (tree_of node) && fit nodes (arrays - 1))
-fit-first node nodes zero = refl
-fit-first node nodes (suc arrays) = refl
+fit-first : (node : Node) (nodes : List Node) (arrays fewer : ℕ) → fewer ≡ arrays - 1 → fit (node ∷ nodes) arrays ≡ (is_argument (nat_lt 0 arrays) (tree_of node) && fit nodes fewer)
+fit-first node nodes zero fewer e = let none : fewer ≡ 0 = omega (arith, e) in sym (ap (λ k. is_argument false (tree_of node) && fit nodes k) none)
+fit-first node nodes (suc arrays) fewer e = let less : fewer ≡ arrays = omega (arith, e) in
+    sym (ap (λ k. is_argument (nat_lt 0 (suc arrays)) (tree_of node) && fit nodes k) less ∙ ap (λ b. is_argument b (tree_of node) && fit nodes arrays) (lt-ltb 0 (suc arrays) (omega arith)))
 
 fit-next : (nodes : List Node) (i : ℕ) (node : Node) (arrays : ℕ) → i < length nodes → node ≡ get_or nodes i node →
     fit (drop i nodes) arrays ≡ (is_argument (nat_lt 0 arrays) (tree_of node) && fit (drop (i + 1) nodes) (arrays - 1))
 fit-next [] i node arrays l h = absurd (omega arith)
 fit-next (first ∷ nodes) zero node arrays l h =
-    fit-first first nodes arrays ∙ ap (λ n. is_argument (nat_lt 0 arrays) (tree_of n) && fit nodes (arrays - 1)) (sym h)
+    fit-first first nodes arrays (arrays - 1) refl ∙ ap (λ n. is_argument (nat_lt 0 arrays) (tree_of n) && fit nodes (arrays - 1)) (sym h)
 fit-next (first ∷ nodes) (suc i) node arrays l h =
     let one_more : suc i + 1 ≡ suc (i + 1) = omega arith in
     fit-next nodes i node arrays (omega arith) h ∙ ap (λ k. is_argument (nat_lt 0 arrays) (tree_of node) && fit (drop k (first ∷ nodes)) (arrays - 1)) (sym one_more)

@@ -73,4 +73,4 @@ abbrev mutual
   are_arguments (more t ts) (suc arrays) = is_plain_nest t && are_arguments ts arrays
 
 abbrev pub is_argument : Bool → Tree → Bool
-is_argument array t = if array then is_plain_nest t else is_literal t
+is_argument among_arrays t = if among_arrays then is_plain_nest t else is_literal t

@@ -2,5 +2,9 @@
 #![tactic(auto)]
 
 pub use plain::is_plain_nest;
+pub use plain_nest::PlainNest;
 
+mod element;
+mod nest;
 mod plain;
+mod plain_nest;

@@ -2,7 +2,7 @@ ghost use Rattle.std.specs.Prelude.{◌≡◌, map};
 ghost use Rattle.tree_core.specs.Formula.{tree_of};
 ghost use Rattle.tree_core.specs.Tree.{forest};
 ghost use Rattle.tree_core.specs.View.{leaf_in};
-ghost use Rattle.nest_core.specs.Plain.{are_arguments, arrays_of, is_array_leaf, is_bare_literal, is_literal, is_literal_leaf, is_nest_kind, is_plain_nest};
+ghost use Rattle.nest_core.specs.Plain.{are_arguments, arrays_of, is_argument, is_array_leaf, is_bare_literal, is_literal, is_literal_leaf, is_nest_kind, is_plain_nest};
 
 use tree_core::{Function, Leaf, Node, OpUnary, View};
 
@@ -132,10 +132,10 @@ fn are_arguments(arrays: usize, nodes: &[Node]) -> bool
 }
 
 #[cycle(plain)]
-fn is_argument(array: bool, node: &Node) -> bool
-    ensures { result ≡ is_argument array (tree_of node.now) }
+fn is_argument(among_arrays: bool, node: &Node) -> bool
+    ensures { result ≡ is_argument among_arrays (tree_of node.now) }
 {
-    if array {
+    if among_arrays {
         is_plain_nest(node)
     } else {
         is_literal(node)
