@@ -3,3 +3,4 @@ pub mod Literals
 pub mod Nests
 pub mod Elements
 pub mod Wholes
+pub mod Sequences

@@ -1,3 +1,5 @@
 pub mod Plain
 pub mod Shown
 pub mod Rows
+pub mod Found
+pub mod Asked

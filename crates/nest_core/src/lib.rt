@@ -4,7 +4,11 @@
 pub use plain::is_plain_nest;
 pub use plain_nest::PlainNest;
 
+mod asked;
+mod casts;
 mod element;
 mod nest;
 mod plain;
 mod plain_nest;
+mod reading;
+mod sequence;

@@ -60,7 +60,7 @@ fn is_array_leaf(leaf: Leaf) -> bool
 }
 
 /// Whether a plain nest may call functions of a kind.
-fn is_nest_kind(kind: Function) -> bool
+pub(crate) fn is_nest_kind(kind: Function) -> bool
     ensures { result ≡ is_nest_kind kind }
 {
     match kind {
