@@ -131,7 +131,7 @@ moved-place nest reshape s sizes parts pad i j e h k l =
       column_within = column-within _ _ j (m.size_is ∙ m.whole) l;
     }
 
-shown-sizes : (book : Contents) (sizes : List Size) (parts : List Nest) → are_sizes sizes (map known parts) ≡ true → map size_of (map (shown book) parts) ≡ sizes
+pub shown-sizes : (book : Contents) (sizes : List Size) (parts : List Nest) → are_sizes sizes (map known parts) ≡ true → map size_of (map (shown book) parts) ≡ sizes
 shown-sizes book [] [] h = refl
 shown-sizes book [] (part ∷ parts) h = cc
 shown-sizes book (s ∷ ss) [] h = cc

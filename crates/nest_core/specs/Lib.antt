@@ -3,3 +3,4 @@ pub mod Shown
 pub mod Rows
 pub mod Found
 pub mod Asked
+pub mod Compiled

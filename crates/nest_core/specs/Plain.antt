@@ -3,6 +3,7 @@
 --   is_literal      one of these, or a minus over one
 --   is_array_leaf   a range, or an array literal
 --   is_nest_kind    the kinds of functions that a plain nest calls
+--   is_sequence     SEQUENCE, which has no array among its arguments
 --   arrays_of       how many of so many arguments of a call are arrays: the first ones
 --   count_of        how many trees stand in a row
 --   are_arguments   so many arguments are plain nests, and those behind them literals
@@ -50,6 +51,10 @@ is_nest_kind Chooserows = true
 is_nest_kind Wrapcols = true
 is_nest_kind Wraprows = true
 is_nest_kind other = false
+
+abbrev pub is_sequence : Function → Bool
+is_sequence Sequence = true
+is_sequence other = false
 
 abbrev pub arrays_of : Function → ℕ → ℕ
 arrays_of Sequence count = 0

@@ -2,7 +2,7 @@ ghost use Rattle.std.specs.Prelude.{◌≡◌, map};
 ghost use Rattle.tree_core.specs.Formula.{tree_of};
 ghost use Rattle.tree_core.specs.Tree.{forest};
 ghost use Rattle.tree_core.specs.View.{leaf_in};
-ghost use Rattle.nest_core.specs.Plain.{are_arguments, arrays_of, is_argument, is_array_leaf, is_bare_literal, is_literal, is_literal_leaf, is_nest_kind, is_plain_nest};
+ghost use Rattle.nest_core.specs.Plain.{are_arguments, arrays_of, is_argument, is_array_leaf, is_bare_literal, is_literal, is_literal_leaf, is_nest_kind, is_plain_nest, is_sequence};
 
 use tree_core::{Function, Leaf, Node, OpUnary, View};
 
@@ -75,6 +75,16 @@ pub(crate) fn is_nest_kind(kind: Function) -> bool
         | Function::Chooserows
         | Function::Wrapcols
         | Function::Wraprows => true,
+        _ => false,
+    }
+}
+
+/// Whether a kind is SEQUENCE, which has no array among its arguments.
+pub(crate) fn is_sequence(kind: Function) -> bool
+    ensures { result ≡ is_sequence kind }
+{
+    match kind {
+        Function::Sequence => true,
         _ => false,
     }
 }
