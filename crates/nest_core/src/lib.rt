@@ -15,3 +15,5 @@ mod plain;
 mod plain_nest;
 mod reading;
 mod sequence;
+#[cfg(test)]
+mod tests;

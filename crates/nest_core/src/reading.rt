@@ -17,7 +17,6 @@ use value_core::{ArrayNode, Memory};
 
 impl PlainNest {
     /// How many rows and columns it has, over any book. No cell is read.
-    #[tactic(auto, using(crate::proofs::Wholes::wholes))]
     pub fn size(&self) -> Size
         ensures { (book : Contents) → result ≡ size_of (rows_in book self.now) }
     {
@@ -25,7 +24,6 @@ impl PlainNest {
     }
 
     /// The element at a place, by its row and column from 0; `None` exactly outside. At most one cell is read, and none outside.
-    #[tactic(auto, using(crate::proofs::Wholes::wholes))]
     pub fn get<B: Reads<L>, L>(
         &self,
         alloc: Global,
@@ -49,7 +47,6 @@ impl PlainNest {
     }
 
     /// The whole array. At most as many cells are read as it has elements.
-    #[tactic(auto, using(crate::proofs::Wholes::wholes))]
     pub fn grid<B: Reads<L>, L>(
         &self,
         alloc: Global,
