@@ -4,10 +4,3 @@ pub mod Nests
 pub mod Elements
 pub mod Wholes
 pub mod Sequences
-pub mod Founds
-pub mod Staged
-pub mod Calls
-pub mod Progressions
-pub mod Refusals
-pub mod Moved
-pub mod Compiles

@@ -6,11 +6,8 @@ pub use plain_nest::PlainNest;
 
 mod asked;
 mod casts;
-mod compile;
 mod element;
-mod literal;
 mod nest;
-mod parts;
 mod plain;
 mod plain_nest;
 mod reading;
