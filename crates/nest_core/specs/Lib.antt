@@ -1,0 +1,4 @@
+pub mod Plain
+pub mod Shown
+pub mod Rows
+pub mod Asked
