@@ -1,0 +1,4 @@
+pub mod Sheet
+pub mod Formula
+pub mod Request
+pub mod Line
