@@ -1,9 +1,10 @@
 -- Delimiters match whole characters.
 --   low-same      bytes that are alike are equal in lower case
+--   firsts        where a delimiter matches, the first bytes are alike
 --   match-whole   where a delimiter matches, characters begin before and behind it
 --   none-empty-at a delimiter of a list without empty ones
-use Rattle.std.proofs.Common.{◌≡◌, ℕ, ◌+◌, ◌<◌, ◌≤◌, Bool, true, false, ◌&&◌, nat_le, List, [], length, get_or, map, take, drop, refl, sym, ap, subst, ◌∙◌, IsUtf8, IsCharBoundary, arith}
-use Rattle.std.specs.Char.{to_ascii_lowercase}
+use Rattle.std.proofs.Common.{◌≡◌, ℕ, ◌+◌, ◌<◌, ◌≤◌, Bool, true, false, ◌&&◌, nat_le, List, [], ◌∷◌, length, get_or, map, take, drop, refl, sym, ap, subst, ◌∙◌, IsUtf8, IsCharBoundary, arith}
+use Rattle.std.specs.Char.{eq_ignore_ascii_case, to_ascii_lowercase}
 use Rattle.std.proofs.lemmas.Bool.{false≢true}
 use Rattle.std.proofs.lemmas.Bool.Decides.{nat_tests}
 use Rattle.std.proofs.lemmas.List.{get_or-drop, get_or-map, get_or-take, length-map, take-map}
@@ -11,7 +12,7 @@ use Rattle.std.proofs.lemmas.List.Folds.{list_all_at}
 use Rattle.std.proofs.lemmas.Slice.Eq.{bytes_eq-Decides}
 use Rattle.std.proofs.lemmas.Str.{IsCharBoundary-from_rest, IsCharBoundary-from_take, IsCharBoundary-start, IsUtf8-drop}
 use Rattle.split_core.proofs.Lowered.{high-low, lowered}
-use Rattle.split_core.specs.Pieces.{IsMatch, begins, none_empty, same_bytes}
+use Rattle.split_core.specs.Pieces.{IsMatch, begins, firsts_alike, none_empty, same_bytes}
 
 both : (a b : Bool) → (a && b) ≡ true → (a ≡ true) × (b ≡ true)
 both true b h = (refl, h)
@@ -51,6 +52,17 @@ ends-whole rest d whole utf8 fits same =
           let one : get_or bytes (length d) 0 ≡ get_or rest (length d) 0 = low-at rest (length d) inside ∙ high-low (get_or rest (length d) 0) high in
           omega (arith, one, cut.1 (omega (arith, inside, count)) (omega (arith, one, high))),
     )
+
+first-alike : (byte first : ℕ) → to_ascii_lowercase byte ≡ to_ascii_lowercase first → eq_ignore_ascii_case byte first ≡ true
+first-alike byte first h = grind (arith, nat_tests)
+
+pub firsts : (blind : Bool) (text d : List ℕ) → begins blind text d ≡ true → firsts_alike text d ≡ true
+firsts blind [] d h = refl
+firsts blind (byte ∷ text) [] h = refl
+firsts blind (byte ∷ text) (first ∷ d) h =
+    let parts = both (nat_le (length (first ∷ d)) (length (byte ∷ text))) (same_bytes blind (take (length (first ∷ d)) (byte ∷ text)) (first ∷ d)) h in
+    let same : map to_ascii_lowercase (take (length (first ∷ d)) (byte ∷ text)) ≡ map to_ascii_lowercase (first ∷ d) = low-same blind (take (length (first ∷ d)) (byte ∷ text)) (first ∷ d) parts.1 in
+    first-alike byte first (ap (λ bytes. get_or bytes 0 0) same)
 
 pub match-whole : (blind : Bool) (text d : List ℕ) (place : ℕ) → IsUtf8 text → IsUtf8 d → place ≤ length text → 1 ≤ length d → begins blind (drop place text) d ≡ true → IsMatch text place (length d)
 match-whole blind text d place utf8 delimiter within some h =
