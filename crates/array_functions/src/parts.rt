@@ -22,7 +22,8 @@ fn unless_zero(count: i64) -> Result<i64, Stop>
     }
 }
 
-fn count_in<B: Reads<L>, L>(
+/// How many rows or columns an argument asks to keep, cut toward zero; a negative number counts from the end. `#CALC!` for none.
+pub fn count_in<B: Reads<L>, L>(
     book: &B,
     cell: CellReferenceIndex,
     found: Found,
@@ -34,7 +35,8 @@ fn count_in<B: Reads<L>, L>(
     unless_zero(count)
 }
 
-fn count_if<B: Reads<L>, L>(
+/// How many rows or columns an argument asks to keep, if there is one.
+pub fn count_if<B: Reads<L>, L>(
     book: &B,
     cell: CellReferenceIndex,
     found: Option<Found>,
@@ -99,7 +101,9 @@ fn unless_none(total: usize, number: i64) -> Result<i64, Stop>
     }
 }
 
-fn choice_in<B: Reads<L>, L>(
+/// A number that names one of so many lines, cut toward zero: from the front the first has number 1, from the end the last has -1.
+/// `#VALUE!` for one that names none.
+pub fn choice_in<B: Reads<L>, L>(
     book: &B,
     cell: CellReferenceIndex,
     total: usize,

@@ -3,6 +3,7 @@
 --   arguments_refused  the error of a call that has another count of them, and of a kind that no plain nest calls
 --   asked           a reshaping, and what fills its places without an element
 --   take_asked .. wrap_asked   of each kind
+--   wrapping, wrap_parts       how many elements a line has, and what fills the last one
 --   of_counts, size_asked, sequence_asked   SEQUENCE: its size, and the whole
 --   asked_of        of a call by its kind, the sizes of its arrays, and its other arguments
 use Rattle.std.specs.Prelude.{ℕ, ℤ, nat_le, nat_eq, Bool, false, ◌&&◌, if◌then◌else◌, List, Option, Some, None, Result, Ok, Err, unsigned_abs}
@@ -29,6 +30,7 @@ use Rattle.nest_core.specs.Plain.{is_nest_kind}
 use Rattle.nest_core.specs.declared.nest.Nest.{Nest}
 use Rattle.nest_core.specs.declared.nest.Nest.TheVariants.{Sequence}
 use Rattle.nest_core.specs.declared.asked.Asked.{Asked}
+use Rattle.nest_core.specs.declared.asked.Wrapping.{Wrapping}
 
 abbrev pub is_between : ℕ → ℕ → ℕ → Bool
 is_between least most count = nat_le least count && nat_le count most
@@ -86,12 +88,18 @@ choice_asked chooser book cell total args =
 abbrev pub unless_block : Size → Result Size Error
 unless_block s = if is_line s then Ok s else Err VALUE
 
-abbrev pub wrap_asked : (ℕ → Reshape) → Contents → CellReferenceIndex → Size → List Found → Result Asked Error
-wrap_asked wrapper book cell s args =
+abbrev pub wrapping : ℕ → ArrayNode → Wrapping
+wrapping count pad = record { count = count; pad = pad }
+
+abbrev pub wrap_parts : Contents → CellReferenceIndex → Size → List Found → Result Wrapping Error
+wrap_parts book cell s args =
     after (unless_block s) (λ line.
     after (one_or_two args) (λ found.
     after (size_in book cell found.first) (λ count.
-    Ok (asked (wrapper count) (pad_in book cell found.second)))))
+    Ok (wrapping count (pad_in book cell found.second)))))
+
+abbrev pub wrap_asked : (ℕ → Reshape) → Contents → CellReferenceIndex → Size → List Found → Result Asked Error
+wrap_asked wrapper book cell s args = after (wrap_parts book cell s args) (λ parts. Ok (asked (wrapper parts.count) parts.pad))
 
 abbrev pub of_counts : ℤ × ℤ → Result Size Error
 of_counts counts = Ok (size (unsigned_abs counts.0) (unsigned_abs counts.1))

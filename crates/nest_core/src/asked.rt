@@ -8,14 +8,16 @@ ghost use Rattle.position_core.specs.declared.reshape.Reshape.TheVariants.{Choos
 ghost use Rattle.array_ops.specs.Reshaped.{not_available};
 ghost use Rattle.argument_core.specs.Argument.{given_if};
 ghost use Rattle.argument_core.specs.Check.{Gives, each};
-ghost use Rattle.array_functions.specs.Parts.{choice_in, count_in, unless_none, unless_zero};
-ghost use Rattle.nest_core.specs.Asked.{arguments_refused, asked, asked_of, choice_asked, drop_asked, expand_asked, is_between, is_counted, plainly, take_asked, unless_block, wrap_asked};
+ghost use Rattle.array_functions.specs.Parts.{choice_in, count_in};
+ghost use Rattle.nest_core.specs.Asked.{arguments_refused, asked, asked_of, choice_asked, drop_asked, expand_asked, is_between, is_counted, plainly, take_asked, unless_block, wrap_asked, wrap_parts};
 
-use crate::casts::{int_if_any, int_of, pad_of, size_of, size_or_default};
+use crate::casts::{
+    choice_of, count_if_any, count_of, int_if_any, int_of, pad_of, size_of, size_or_default,
+};
 use crate::plain::is_nest_kind;
 use argument_core::{Stop, at_least_one, one_or_two, one_to_three};
 use call_core::Function;
-use position_core::{Numbers, Reshape, Size, is_choice};
+use position_core::{Numbers, Reshape, Size};
 use result_core::Found;
 use std::alloc::Global;
 use value_core::{ArrayNode, CellReferenceIndex, Error};
@@ -25,6 +27,13 @@ use value_core::{ArrayNode, CellReferenceIndex, Error};
 pub(crate) struct Asked {
     pub(crate) reshape: Reshape,
     pub(crate) pad: ArrayNode,
+}
+
+/// Lines of so many elements, and the element that fills the last of them.
+#[derive(Debug, Drop)]
+struct Wrapping {
+    count: usize,
+    pad: ArrayNode,
 }
 
 fn is_between(least: usize, most: usize, count: usize) -> bool
@@ -73,39 +82,6 @@ fn plainly(reshape: Reshape) -> Asked
     }
 }
 
-fn unless_zero(count: i64) -> Result<i64, Stop>
-    ensures { Gives result (unless_zero count) }
-{
-    if count == 0 {
-        Err(Stop::Wrong(Error::CALC))
-    } else {
-        Ok(count)
-    }
-}
-
-fn count_of(alloc: Global, cell: CellReferenceIndex, found: Found) -> Result<i64, Stop>
-    ensures { Gives result (count_in no_contents cell found) }
-{
-    let count = int_of(alloc, cell, found)?;
-    unless_zero(count)
-}
-
-fn count_if_any(
-    alloc: Global,
-    cell: CellReferenceIndex,
-    found: Option<Found>,
-) -> Result<Option<i64>, Stop>
-    ensures { Gives result (given_if (count_in no_contents cell) found) }
-{
-    match found {
-        Some(found) => {
-            let count = count_of(alloc, cell, found)?;
-            Ok(Some(count))
-        }
-        None => Ok(None),
-    }
-}
-
 fn take_asked(alloc: Global, cell: CellReferenceIndex, args: Vec<Found>) -> Result<Asked, Stop>
     ensures asked { Gives result (take_asked no_contents cell args.items) }
     ensures numbers { IfOk result (λ asked. HasNumbers asked.reshape) }
@@ -143,28 +119,6 @@ fn expand_asked(
         reshape: Reshape::Expand { rows, columns },
         pad,
     })
-}
-
-fn unless_none(total: usize, number: i64) -> Result<i64, Stop>
-    ensures { Gives result (unless_none total number) }
-{
-    if is_choice(number, total) {
-        Ok(number)
-    } else {
-        Err(Stop::Wrong(Error::VALUE))
-    }
-}
-
-fn choice_of(
-    alloc: Global,
-    cell: CellReferenceIndex,
-    total: usize,
-    found: Found,
-) -> Result<i64, Stop>
-    ensures { Gives result (choice_in no_contents cell total found) }
-{
-    let number = int_of(alloc, cell, found)?;
-    unless_none(total, number)
 }
 
 /// Numbers that each name one of so many lines, in their order.
@@ -224,6 +178,21 @@ fn unless_block(size: Size) -> Result<Size, Stop>
     }
 }
 
+fn wrap_parts(
+    alloc: Global,
+    cell: CellReferenceIndex,
+    size: Size,
+    args: Vec<Found>,
+) -> Result<Wrapping, Stop>
+    ensures { Gives result (wrap_parts no_contents cell size args.items) }
+{
+    let _line = unless_block(size)?;
+    let found = one_or_two(args)?;
+    let count = size_of(alloc, cell, found.first)?;
+    let pad = pad_of(alloc, cell, found.second)?;
+    Ok(Wrapping { count, pad })
+}
+
 fn wrap_rows_asked(
     alloc: Global,
     cell: CellReferenceIndex,
@@ -233,14 +202,9 @@ fn wrap_rows_asked(
     ensures asked { Gives result (wrap_asked WrapRows no_contents cell size args.items) }
     ensures numbers { IfOk result (λ asked. HasNumbers asked.reshape) }
 {
-    let _line = unless_block(size)?;
-    let found = one_or_two(args)?;
-    let count = size_of(alloc, cell, found.first)?;
-    let pad = pad_of(alloc, cell, found.second)?;
-    Ok(Asked {
-        reshape: Reshape::WrapRows { count },
-        pad,
-    })
+    let Wrapping { count, pad } = wrap_parts(alloc, cell, size, args)?;
+    let reshape = Reshape::WrapRows { count };
+    Ok(Asked { reshape, pad })
 }
 
 fn wrap_columns_asked(
@@ -252,14 +216,9 @@ fn wrap_columns_asked(
     ensures asked { Gives result (wrap_asked WrapColumns no_contents cell size args.items) }
     ensures numbers { IfOk result (λ asked. HasNumbers asked.reshape) }
 {
-    let _line = unless_block(size)?;
-    let found = one_or_two(args)?;
-    let count = size_of(alloc, cell, found.first)?;
-    let pad = pad_of(alloc, cell, found.second)?;
-    Ok(Asked {
-        reshape: Reshape::WrapColumns { count },
-        pad,
-    })
+    let Wrapping { count, pad } = wrap_parts(alloc, cell, size, args)?;
+    let reshape = Reshape::WrapColumns { count };
+    Ok(Asked { reshape, pad })
 }
 
 /// What a call asks of its arrays, by their sizes and its other arguments, which are literals.
