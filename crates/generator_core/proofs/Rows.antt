@@ -10,12 +10,8 @@ use Rattle.value_core.specs.declared.array.ArrayNode.{ArrayNode}
 use Rattle.value_core.specs.declared.array.ArrayNode.TheVariants.{Boolean, Empty, Number, String}
 use Rattle.value_core.specs.declared.position.CellReferenceIndex.{CellReferenceIndex}
 use Rattle.book_core.specs.Contents.{Contents, IsAddedSheet, IsSetCell, no_contents, same_cell}
+use Rattle.request_core.proofs.Filling.{one_contents}
 use Rattle.generator_core.specs.Sheet.{amount, in_row, in_rows, is_kept, item, sheet_with}
-
-one_contents : (a b : Contents) → ((place : CellReferenceIndex) → a.value place ≡ b.value place) → ((place : CellReferenceIndex) → a.num_fmt place ≡ b.num_fmt place)
-    → ((place : CellReferenceIndex) → a.formula place ≡ b.formula place) → a.sheets ≡ b.sheets → a ≡ b
-one_contents a b values formats formulas sheets =
-    λ i. record { value = λ place. values place i; num_fmt = λ place. formats place i; formula = λ place. formulas place i; sheets = sheets i }
 
 if-none : {A : Type 0} (test : Bool) (other : Option A) → other ≡ None → (if test then None else other) ≡ None
 if-none true other is = refl

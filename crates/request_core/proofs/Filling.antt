@@ -125,7 +125,7 @@ refused_twice cells None twice = refl
 refused_twice cells (Some rest) twice = rw (are_distinct-prefix cells rest twice)
 
 -- contents that agree in each cell are one
-one_contents : (a b : Contents) → ((place : CellReferenceIndex) → a.value place ≡ b.value place) → ((place : CellReferenceIndex) → a.num_fmt place ≡ b.num_fmt place)
+pub one_contents : (a b : Contents) → ((place : CellReferenceIndex) → a.value place ≡ b.value place) → ((place : CellReferenceIndex) → a.num_fmt place ≡ b.num_fmt place)
     → ((place : CellReferenceIndex) → a.formula place ≡ b.formula place) → a.sheets ≡ b.sheets → a ≡ b
 one_contents a b values formats formulas sheets =
     λ i. record { value = λ place. values place i; num_fmt = λ place. formats place i; formula = λ place. formulas place i; sheets = sheets i }
