@@ -2,3 +2,4 @@ pub mod Plain
 pub mod Shown
 pub mod Rows
 pub mod Asked
+pub mod Built

@@ -59,7 +59,7 @@ fn is_counted(kind: Function, count: usize) -> bool
 }
 
 /// The error of a call that has not as many arguments as its kind takes, and of a kind that no plain nest calls.
-pub(crate) fn arguments_refused(kind: Function, count: usize) -> Option<Error>
+pub fn arguments_refused(kind: Function, count: usize) -> Option<Error>
     ensures { result ≡ arguments_refused kind count }
 {
     if is_nest_kind(kind) {

@@ -1,10 +1,12 @@
 //! Plain nests: ranges, array literals and calls that move elements, of which one element is found without the whole.
 #![tactic(auto)]
 
-pub use plain::is_plain_nest;
+pub use asked::arguments_refused;
+pub use plain::{arrays_of, is_nest_kind, is_plain_nest};
 pub use plain_nest::PlainNest;
 
 mod asked;
+mod building;
 mod casts;
 mod element;
 mod nest;

@@ -60,7 +60,7 @@ fn is_array_leaf(leaf: Leaf) -> bool
 }
 
 /// Whether a plain nest may call functions of a kind.
-pub(crate) fn is_nest_kind(kind: Function) -> bool
+pub fn is_nest_kind(kind: Function) -> bool
     ensures { result ≡ is_nest_kind kind }
 {
     match kind {
@@ -90,7 +90,7 @@ pub(crate) fn is_sequence(kind: Function) -> bool
 }
 
 /// How many of so many arguments of a call are arrays: the first ones.
-pub(crate) fn arrays_of(kind: Function, count: usize) -> usize
+pub fn arrays_of(kind: Function, count: usize) -> usize
     ensures { result ≡ arrays_of kind count }
 {
     match kind {
