@@ -4,3 +4,6 @@ pub mod Nests
 pub mod Elements
 pub mod Wholes
 pub mod Sequences
+pub mod Constants
+pub mod Calls
+pub mod Builts

@@ -1,0 +1,132 @@
+-- Nests that calls come to.
+--   shows         a call of a nest's kinds comes to the array that the nest it asks for is
+--   literal-sound, cells-sound, reshaped-sound   nests that keep their sizes rightly
+--   part-sizes    the sizes of nests, and what is known of these
+--   fitted-fits, fitted-wrong   what is fitted, and which check isn't passed
+use Rattle.std.proofs.Common.{◌≡◌, ℕ, zero, suc, ◌+◌, ◌×◌, ◌^◌, ◌<◌, ◌≤◌, ⊥, Bool, true, false, ◌&&◌, nat_lt, nat_le, if◌then◌else◌, List, [], ◌∷◌, ◌++◌, length, map, All, Option, Some, None, Result, Ok, Err, refl, sym, ap, ap₂, subst, ◌∙◌, arith, append_assoc, append-nil}
+use Rattle.std.specs.List.{list_all}
+use Rattle.std.specs.Option.{is_none, option_map_or}
+use Rattle.std.proofs.lemmas.Bool.{and_from, and_parts, le-leb}
+use Rattle.std.proofs.lemmas.List.Elements.{All-cons, All-nil}
+use Rattle.call_core.specs.declared.function.Function.{Function}
+use Rattle.call_core.specs.declared.function.Function.TheVariants as kind
+use Rattle.value_core.specs.declared.array.ArrayNode.{ArrayNode}
+use Rattle.value_core.specs.declared.error.Error.{Error}
+use Rattle.value_core.specs.declared.position.CellReferenceIndex.{CellReferenceIndex}
+use Rattle.value_core.specs.declared.position.Range.{Range}
+use Rattle.book_core.specs.Contents.{Contents, no_contents}
+use Rattle.validity_core.specs.Good.{is_array}
+use Rattle.result_core.specs.declared.found.Found.{Found}
+use Rattle.position_core.specs.Check.{counted, fitted, refused}
+use Rattle.position_core.specs.Place.{HasPlaces}
+use Rattle.position_core.specs.Sized.{reshaped}
+use Rattle.position_core.specs.declared.reshape.Fitted.{Fitted}
+use Rattle.position_core.specs.declared.reshape.Fitted.TheVariants.{Size as Fits, Wrong, TooLong}
+use Rattle.position_core.specs.declared.reshape.Reshape.{Reshape}
+use Rattle.position_core.specs.declared.reshape.Size.{Size}
+use Rattle.array_ops.specs.Reshaped.{answered, reshaped_grid, size_of}
+use Rattle.argument_core.specs.Check.{after}
+use Rattle.own_functions.specs.Own.{call_result, own_call, own_result}
+use Rattle.nest_core.specs.Asked.{arguments_refused, asked_of}
+use Rattle.nest_core.specs.Built.{array_found, held_in, is_constant, moved_nest, nest_asked, size_of_nest}
+use Rattle.nest_core.specs.Plain.{arrays_of}
+use Rattle.nest_core.specs.Rows.{rows_in}
+use Rattle.nest_core.specs.Shown.{are_sizes, has_places, is_sound, known, same_size, shown, size_in}
+use Rattle.nest_core.specs.declared.asked.Asked.{Asked}
+use Rattle.nest_core.specs.declared.nest.Nest.{Nest}
+use Rattle.nest_core.specs.declared.nest.Nest.TheVariants.{Cells, Literal, Reshaped}
+use Rattle.nest_core.specs.declared.plain_nest.PlainNest.{PlainNest}
+use Rattle.nest_core.proofs.Calls.{answer, asks, seen, seen-unless, sequence-is}
+use Rattle.nest_core.proofs.Constants.{same-asked, same-sequence}
+use Rattle.nest_core.proofs.Nests.{known-cells, known-literal, known-reshaped, own-size, same-size, shown-reshaped}
+use Rattle.nest_core.proofs.Wholes.{sized-nest, some-columns, some-rows}
+
+-- ---- what a call comes to
+
+module _ (book : Contents) (limit : ℕ) (cell : CellReferenceIndex) where
+  shown-sizes : (parts : List PlainNest) → map size_of (map (rows_in book) parts) ≡ map size_of_nest parts
+  shown-sizes [] = refl
+  shown-sizes (part ∷ parts) = ap₂ (λ s ss. s ∷ ss) (sym (sized-nest part.held book part.sound)) (shown-sizes parts)
+
+  shown-parts : (parts : List PlainNest) → map (shown book) (map held_in parts) ≡ map (rows_in book) parts
+  shown-parts [] = refl
+  shown-parts (part ∷ parts) = ap (λ arrays. rows_in book part ∷ arrays) (shown-parts parts)
+
+  shows-asked : (parts : List PlainNest) (found : Result Asked Error) →
+      call_result cell (after found (answer limit cell (map (rows_in book) parts)))
+      ≡ seen book limit cell (after found (moved_nest limit (map size_of_nest parts) (map held_in parts)))
+  shows-asked parts (Err e) = refl
+  shows-asked parts (Ok asked) =
+      let grid = reshaped_grid asked.reshape (map (rows_in book) parts) asked.pad in
+      let sizes = map size_of_nest parts in
+      ap (λ ss. answered (refused asked.reshape ss limit) cell grid) (shown-sizes parts)
+      ∙ seen-unless book limit cell (refused asked.reshape sizes limit) (Reshaped asked.reshape (reshaped asked.reshape sizes) sizes (map held_in parts) asked.pad) grid
+      (shown-reshaped book asked.reshape (reshaped asked.reshape sizes) sizes (map held_in parts) asked.pad ∙ ap (λ arrays. reshaped_grid asked.reshape arrays asked.pad) (shown-parts parts))
+
+  shows-moved : (k : Function) (parts : List PlainNest) (args : List Found) → list_all is_constant args ≡ true →
+      own_call book limit cell k (map (array_found book) parts ++ args)
+      ≡ after (asked_of book cell k (map size_of (map (rows_in book) parts)) args) (answer limit cell (map (rows_in book) parts)) →
+      own_result book limit cell k (map (array_found book) parts ++ args)
+      ≡ seen book limit cell (after (asked_of no_contents cell k (map size_of_nest parts) args) (moved_nest limit (map size_of_nest parts) (map held_in parts)))
+  shows-moved k parts args c e =
+      let ends = answer limit cell (map (rows_in book) parts) in
+      ap (call_result cell) e
+      ∙ ap (λ ss. call_result cell (after (asked_of book cell k ss args) ends)) (shown-sizes parts)
+      ∙ ap (λ found. call_result cell (after found ends)) (same-asked book cell k (map size_of_nest parts) args c)
+      ∙ shows-asked parts (asked_of no_contents cell k (map size_of_nest parts) args)
+
+  pub shows : (k : Function) (parts : List PlainNest) (args : List Found) → arguments_refused k (length parts + length args) ≡ None →
+      length parts ≡ arrays_of k (length parts + length args) → list_all is_constant args ≡ true →
+      own_result book limit cell k (map (array_found book) parts ++ args) ≡ seen book limit cell (nest_asked limit cell k parts args)
+  shows kind.Sequence [] args h e c = sequence-is book limit cell args ∙ ap (seen book limit cell) (same-sequence book cell limit args c)
+  shows kind.Sequence (part ∷ parts) args h e c = cc
+  shows other parts args h e c = shows-moved other parts args c (asks book limit cell other parts args h e refl)
+
+-- ---- sizes that are kept
+
+pub cells-sound : (range : Range) → is_sound (Cells range) ≡ true
+cells-sound range = ap (λ (k : Size × Bool). k.1) (known-cells range)
+
+pub literal-sound : (rows : List (List ArrayNode)) → is_array rows ≡ true → is_sound (Literal rows) ≡ true
+literal-sound rows h = ap (λ (k : Size × Bool). k.1) (known-literal rows) ∙ h
+
+pub reshaped-sound : (reshape : Reshape) (s : Size) (sizes : List Size) (parts : List Nest) (pad : ArrayNode) → are_sizes sizes (map known parts) ≡ true → 0 < length sizes →
+    refused reshape sizes 16777216 ≡ None → s ≡ reshaped reshape sizes → HasPlaces s → is_sound (Reshaped reshape s sizes parts pad) ≡ true
+reshaped-sound reshape s sizes parts pad known_sizes some passed whole places =
+    ap (λ (k : Size × Bool). k.1) (known-reshaped reshape s sizes parts pad)
+    ∙ and_from _ _ (and_from _ _ (and_from _ _ (and_from _ _ known_sizes (le-leb 1 (length sizes) some)) (ap is_none passed)) (own-size s (reshaped reshape sizes) whole))
+    (and_from _ _ (le-leb 1 s.rows places.0) (le-leb 1 s.columns places.1))
+
+pub known-parts : (parts : List PlainNest) → are_sizes (map size_of_nest parts) (map known (map held_in parts)) ≡ true
+known-parts [] = refl
+known-parts (part ∷ parts) = and_from _ _ (and_from _ _ (own-size (size_in part.held) (size_in part.held) refl) part.sound) (known-parts parts)
+
+pub all-places : (sizes : List Size) (parts : List Nest) → are_sizes sizes (map known parts) ≡ true → All HasPlaces sizes
+all-places [] [] h = All-nil HasPlaces
+all-places [] (part ∷ parts) h = cc
+all-places (s ∷ ss) [] h = cc
+all-places (s ∷ ss) (part ∷ parts) h =
+    let all = and_parts _ _ h in let here = and_parts _ _ all.0 in
+    let sized = same-size s (size_in part) here.0 in
+    All-cons HasPlaces s ss (subst HasPlaces (sym sized) (some-rows part here.1, some-columns part here.1)) (all-places ss parts all.1)
+
+-- ---- what is fitted
+
+not-wrong : (a b : Bool) (s : Size) (e : Error) → (if a && b then Fits s else TooLong) ≡ Wrong e → ⊥
+not-wrong true true s e h = cc
+not-wrong true false s e h = cc
+not-wrong false b s e h = cc
+
+by-refusal : (refusal : Option Error) (s : Size) (e : Error) → Wrong e ≡ option_map_or Wrong refusal (counted s) → refusal ≡ Some e
+by-refusal (Some other) s e h = cc
+by-refusal None s e h = absurd (not-wrong (nat_lt s.rows (2 ^ 64)) (nat_lt s.columns (2 ^ 64)) s e (sym h))
+
+pub fitted-wrong : (reshape : Reshape) (sizes : List Size) (limit : ℕ) (e : Error) → Wrong e ≡ fitted reshape sizes limit → refused reshape sizes limit ≡ Some e
+fitted-wrong reshape sizes limit e h = by-refusal (refused reshape sizes limit) (reshaped reshape sizes) e h
+
+fits-refusal : (refusal : Option Error) (s t : Size) → Fits s ≡ option_map_or Wrong refusal (counted t) → refusal ≡ None
+fits-refusal (Some e) s t h = cc
+fits-refusal None s t h = refl
+
+pub fitted-fits : (reshape : Reshape) (sizes : List Size) (limit : ℕ) (s : Size) → Fits s ≡ fitted reshape sizes limit → refused reshape sizes limit ≡ None
+fitted-fits reshape sizes limit s h = fits-refusal (refused reshape sizes limit) s (reshaped reshape sizes) h
