@@ -38,7 +38,7 @@ use Rattle.nest_core.specs.declared.nest.Nest.TheVariants.{Cells, Literal, Resha
 use Rattle.nest_core.specs.declared.plain_nest.PlainNest.{PlainNest}
 use Rattle.nest_core.proofs.Calls.{answer, asks, seen, seen-unless, sequence-is}
 use Rattle.nest_core.proofs.Constants.{same-asked, same-sequence}
-use Rattle.nest_core.proofs.Nests.{known-cells, known-literal, known-reshaped, own-size, same-size, shown-reshaped}
+use Rattle.nest_core.proofs.Nests.{known-cells, known-literal, known-reshaped, own-size, same-size, shown-cells, shown-literal, shown-reshaped}
 use Rattle.nest_core.proofs.Wholes.{sized-nest, some-columns, some-rows}
 
 -- ---- what a call comes to
@@ -54,7 +54,7 @@ module _ (book : Contents) (limit : ℕ) (cell : CellReferenceIndex) where
 
   shows-asked : (parts : List PlainNest) (found : Result Asked Error) →
       call_result cell (after found (answer limit cell (map (rows_in book) parts)))
-      ≡ seen book limit cell (after found (moved_nest limit (map size_of_nest parts) (map held_in parts)))
+      ≡ seen book cell (after found (moved_nest limit (map size_of_nest parts) (map held_in parts)))
   shows-asked parts (Err e) = refl
   shows-asked parts (Ok asked) =
       let grid = reshaped_grid asked.reshape (map (rows_in book) parts) asked.pad in
@@ -67,7 +67,7 @@ module _ (book : Contents) (limit : ℕ) (cell : CellReferenceIndex) where
       own_call book limit cell k (map (array_found book) parts ++ args)
       ≡ after (asked_of book cell k (map size_of (map (rows_in book) parts)) args) (answer limit cell (map (rows_in book) parts)) →
       own_result book limit cell k (map (array_found book) parts ++ args)
-      ≡ seen book limit cell (after (asked_of no_contents cell k (map size_of_nest parts) args) (moved_nest limit (map size_of_nest parts) (map held_in parts)))
+      ≡ seen book cell (after (asked_of no_contents cell k (map size_of_nest parts) args) (moved_nest limit (map size_of_nest parts) (map held_in parts)))
   shows-moved k parts args c e =
       let ends = answer limit cell (map (rows_in book) parts) in
       ap (call_result cell) e
@@ -77,8 +77,8 @@ module _ (book : Contents) (limit : ℕ) (cell : CellReferenceIndex) where
 
   pub shows : (k : Function) (parts : List PlainNest) (args : List Found) → arguments_refused k (length parts + length args) ≡ None →
       length parts ≡ arrays_of k (length parts + length args) → list_all is_constant args ≡ true →
-      own_result book limit cell k (map (array_found book) parts ++ args) ≡ seen book limit cell (nest_asked limit cell k parts args)
-  shows kind.Sequence [] args h e c = sequence-is book limit cell args ∙ ap (seen book limit cell) (same-sequence book cell limit args c)
+      own_result book limit cell k (map (array_found book) parts ++ args) ≡ seen book cell (nest_asked limit cell k parts args)
+  shows kind.Sequence [] args h e c = sequence-is book limit cell args ∙ ap (seen book cell) (same-sequence book cell limit args c)
   shows kind.Sequence (part ∷ parts) args h e c = cc
   shows other parts args h e c = shows-moved other parts args c (asks book limit cell other parts args h e refl)
 
@@ -130,3 +130,5 @@ fits-refusal None s t h = refl
 
 pub fitted-fits : (reshape : Reshape) (sizes : List Size) (limit : ℕ) (s : Size) → Fits s ≡ fitted reshape sizes limit → refused reshape sizes limit ≡ None
 fitted-fits reshape sizes limit s h = fits-refusal (refused reshape sizes limit) s (reshaped reshape sizes) h
+
+pub ruleset builts = (cells-sound, literal-sound, shown-cells, shown-literal)

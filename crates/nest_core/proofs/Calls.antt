@@ -82,6 +82,11 @@ by-none P none (a ∷ args) h = absurd (omega (arith, h))
 abbrev pub answer : ℕ → CellReferenceIndex → List (List (List ArrayNode)) → Asked → Result CalcResult Error
 answer limit cell arrays asked = Ok (reshaped_answer asked.reshape arrays asked.pad limit cell)
 
+-- what is seen of a nest
+abbrev pub seen : Contents → CellReferenceIndex → Result Nest Error → CalcResult
+seen book cell (Ok nest) = calc.Array (shown book nest)
+seen book cell (Err e) = wrong cell e
+
 module _ (book : Contents) (limit : ℕ) (cell : CellReferenceIndex) where
   module _ (rows : List (List ArrayNode)) where
     abbrev first : List Found → List Found
@@ -176,15 +181,24 @@ module _ (book : Contents) (limit : ℕ) (cell : CellReferenceIndex) where
 
   -- ---- what is seen of a nest
 
-  pub abbrev seen : Result Nest Error → CalcResult
-  seen (Ok nest) = calc.Array (shown book nest)
-  seen (Err e) = wrong cell e
-
-  pub seen-unless : (refusal : Option Error) (nest : Nest) (grid : List (List ArrayNode)) → shown book nest ≡ grid → answered refusal cell grid ≡ seen (unless_refused refusal nest)
+  pub seen-unless : (refusal : Option Error) (nest : Nest) (grid : List (List ArrayNode)) → shown book nest ≡ grid → answered refusal cell grid ≡ seen book cell (unless_refused refusal nest)
   seen-unless None nest grid h = ap calc.Array (sym h)
   seen-unless (Some e) nest grid h = refl
 
   -- ---- SEQUENCE
+
+  sequence-answered : (m n start step : ℤ) → count_refused m ≡ None → count_refused n ≡ None → checked (unsigned_abs m) (unsigned_abs n) limit ≡ None →
+      sequence_answer m n start step limit cell ≡ calc.Array (shown book (Sequence (size (unsigned_abs m) (unsigned_abs n)) start step))
+  sequence-answered m n start step a b c =
+      (λ i. answered (first_of_two (a i) (first_of_two (b i) (c i))) cell (sequence_grid (unsigned_abs m) (unsigned_abs n) start step))
+      ∙ ap calc.Array (sym (shown-sequence book (size (unsigned_abs m) (unsigned_abs n)) start step))
+
+  with-numbers : (m n : ℤ) (t u : Result ℤ Error) → count_refused m ≡ None → count_refused n ≡ None → checked (unsigned_abs m) (unsigned_abs n) limit ≡ None →
+      call_result cell (after t (λ start. after u (λ step. Ok (sequence_answer m n start step limit cell))))
+      ≡ seen book cell (after t (λ start. after u (λ step. Ok (Sequence (size (unsigned_abs m) (unsigned_abs n)) start step))))
+  with-numbers m n (Ok start) (Ok step) a b c = sequence-answered m n start step a b c
+  with-numbers m n (Ok start) (Err e) a b c = refl
+  with-numbers m n (Err e) u a b c = refl
 
   module _ (t u : Result ℤ Error) where
     abbrev answers : ℤ × ℤ → Result CalcResult Error
@@ -194,20 +208,7 @@ module _ (book : Contents) (limit : ℕ) (cell : CellReferenceIndex) where
     nests s = after t (λ start. after u (λ step. Ok (Sequence s start step)))
 
     abbrev Agree : Result (ℤ × ℤ) Error → Type 0
-    Agree counts = call_result cell (after counts answers) ≡ seen (after (after counts of_counts) nests)
-
-    sequence-answered : (m n start step : ℤ) → count_refused m ≡ None → count_refused n ≡ None → checked (unsigned_abs m) (unsigned_abs n) limit ≡ None →
-        sequence_answer m n start step limit cell ≡ calc.Array (shown book (Sequence (size (unsigned_abs m) (unsigned_abs n)) start step))
-    sequence-answered m n start step a b c =
-        (λ i. answered (first_of_two (a i) (first_of_two (b i) (c i))) cell (sequence_grid (unsigned_abs m) (unsigned_abs n) start step))
-        ∙ ap calc.Array (sym (shown-sequence book (size (unsigned_abs m) (unsigned_abs n)) start step))
-
-    with-numbers : (m n : ℤ) (t u : Result ℤ Error) → count_refused m ≡ None → count_refused n ≡ None → checked (unsigned_abs m) (unsigned_abs n) limit ≡ None →
-        call_result cell (after t (λ start. after u (λ step. Ok (sequence_answer m n start step limit cell))))
-        ≡ seen (after t (λ start. after u (λ step. Ok (Sequence (size (unsigned_abs m) (unsigned_abs n)) start step))))
-    with-numbers m n (Ok start) (Ok step) a b c = sequence-answered m n start step a b c
-    with-numbers m n (Ok start) (Err e) a b c = refl
-    with-numbers m n (Err e) u a b c = refl
+    Agree counts = call_result cell (after counts answers) ≡ seen book cell (after (after counts of_counts) nests)
 
     with-size : (m n : ℤ) (refusal : Option Error) → checked (unsigned_abs m) (unsigned_abs n) limit ≡ refusal → count_refused m ≡ None → count_refused n ≡ None →
         Agree (unless_refused refusal (m, n))
@@ -228,7 +229,7 @@ module _ (book : Contents) (limit : ℕ) (cell : CellReferenceIndex) where
     sequenced-is (Ok number) s = with-rows (floor number) (count_refused (floor number)) s refl
     sequenced-is (Err e) s = refl
 
-  pub sequence-is : (args : List Found) → call_result cell (sequence_call book limit cell args) ≡ seen (sequence_asked book limit cell args)
+  pub sequence-is : (args : List Found) → call_result cell (sequence_call book limit cell args) ≡ seen book cell (sequence_asked book limit cell args)
   sequence-is [] = refl
   sequence-is (a ∷ []) = sequenced-is (or_one book cell None) (or_one book cell None) (or_one book cell (Some a)) (or_one book cell None)
   sequence-is (a ∷ b ∷ []) = sequenced-is (or_one book cell None) (or_one book cell None) (or_one book cell (Some a)) (or_one book cell (Some b))

@@ -29,6 +29,20 @@ use Rattle.nest_core.specs.declared.asked.Asked.{Asked}
 use Rattle.nest_core.specs.declared.nest.Nest.{Nest}
 use Rattle.nest_core.specs.declared.nest.Nest.TheVariants.{Sequence}
 
+-- ---- checks by what their arguments are cast to
+
+abbrev expanded : Result ℕ Error → Result ℕ Error → ArrayNode → Result Asked Error
+expanded r s pad = after r (λ rows. after s (λ columns. Ok (asked (move.Expand rows columns) pad)))
+
+abbrev wrapped : (ℕ → Reshape) → Size → Result ℕ Error → ArrayNode → Result Asked Error
+wrapped wrapper s r pad =
+    after (after (unless_block s) (λ line. after r (λ count. Ok (wrapping count pad)))) (λ parts. Ok (asked (wrapper parts.count) parts.pad))
+
+abbrev sequenced : ℕ → Result ℤ Error → Result ℤ Error → Result ℤ Error → Result ℤ Error → Result Nest Error
+sequenced limit r s t u =
+    after (after (after (after r count_of) (λ rows. after (after s count_of) (λ columns. unless_large limit rows columns))) of_counts)
+    (λ size. after t (λ start. after u (λ step. Ok (Sequence size start step))))
+
 -- ---- one argument
 
 module _ (book : Contents) (cell : CellReferenceIndex) where
@@ -72,9 +86,6 @@ module _ (book : Contents) (cell : CellReferenceIndex) where
       ap₂ (λ r s. after r (λ rows. after (after s some_of) (λ columns. plainly (move.DropOff rows columns)))) (same-int a p.0) (same-int b q.0)
   same-drop (a ∷ b ∷ c ∷ more) h = refl
 
-  abbrev expanded : Result ℕ Error → Result ℕ Error → ArrayNode → Result Asked Error
-  expanded r s pad = after r (λ rows. after s (λ columns. Ok (asked (move.Expand rows columns) pad)))
-
   same-expand : (width : ℕ) (args : List Found) → list_all is_constant args ≡ true → expand_asked book cell width args ≡ expand_asked no_contents cell width args
   same-expand width [] h = refl
   same-expand width (a ∷ []) h = let p = and_parts _ _ h in ap (λ r. expanded r (Ok width) (pad_in no_contents cell None)) (same-size a p.0)
@@ -92,10 +103,6 @@ module _ (book : Contents) (cell : CellReferenceIndex) where
       choice_asked chooser book cell total args ≡ choice_asked chooser no_contents cell total args
   same-choose chooser total [] h = refl
   same-choose chooser total (a ∷ args) h = ap (λ r. after r (λ numbers. plainly (chooser numbers))) (same-choices total (a ∷ args) h)
-
-  abbrev wrapped : (ℕ → Reshape) → Size → Result ℕ Error → ArrayNode → Result Asked Error
-  wrapped wrapper s r pad =
-      after (after (unless_block s) (λ line. after r (λ count. Ok (wrapping count pad)))) (λ parts. Ok (asked (wrapper parts.count) parts.pad))
 
   same-wrap : (wrapper : ℕ → Reshape) (s : Size) (args : List Found) → list_all is_constant args ≡ true →
       wrap_asked wrapper book cell s args ≡ wrap_asked wrapper no_contents cell s args
@@ -117,11 +124,6 @@ module _ (book : Contents) (cell : CellReferenceIndex) where
   same-asked other sizes args h = refl
 
   -- ---- SEQUENCE
-
-  pub abbrev sequenced : ℕ → Result ℤ Error → Result ℤ Error → Result ℤ Error → Result ℤ Error → Result Nest Error
-  sequenced limit r s t u =
-      after (after (after (after r count_of) (λ rows. after (after s count_of) (λ columns. unless_large limit rows columns))) of_counts)
-      (λ size. after t (λ start. after u (λ step. Ok (Sequence size start step))))
 
   pub same-sequence : (limit : ℕ) (args : List Found) → list_all is_constant args ≡ true → sequence_asked book limit cell args ≡ sequence_asked no_contents limit cell args
   same-sequence limit [] h = refl

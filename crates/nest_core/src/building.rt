@@ -27,6 +27,7 @@ use value_core::{CellReferenceIndex, Memory, Range};
 
 impl PlainNest {
     /// The cells of a range. None is read, and it takes no memory.
+    #[tactic(auto, using(crate::proofs::Builts::builts))]
     pub fn of_range(range: Range) -> PlainNest
         ensures { (book : Contents) → rows_in book result ≡ read book range.left range.right }
     {
@@ -36,6 +37,7 @@ impl PlainNest {
     }
 
     /// The elements of an array literal: at least one row and one column, at most as many as a sheet has, all rows equally long.
+    #[tactic(auto, using(crate::proofs::Builts::builts))]
     pub fn of_array(grid: Grid) -> PlainNest
         requires { IsTrue (is_array grid) }
         ensures { (book : Contents) → rows_in book result ≡ grid }
