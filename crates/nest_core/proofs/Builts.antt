@@ -2,8 +2,8 @@
 --   shows         a call of a nest's kinds comes to the array that the nest it asks for is
 --   literal-sound, cells-sound, reshaped-sound   nests that keep their sizes rightly
 --   part-sizes    the sizes of nests, and what is known of these
---   fitted-fits, fitted-wrong   what is fitted, and which check isn't passed
-use Rattle.std.proofs.Common.{◌≡◌, ℕ, zero, suc, ◌+◌, ◌×◌, ◌^◌, ◌<◌, ◌≤◌, ⊥, Bool, true, false, ◌&&◌, nat_lt, nat_le, if◌then◌else◌, List, [], ◌∷◌, ◌++◌, length, map, All, Option, Some, None, Result, Ok, Err, refl, sym, ap, ap₂, subst, ◌∙◌, arith, append_assoc, append-nil}
+--   fits-nest, wrong-nest, fits-sound   what is made of what is fitted
+use Rattle.std.proofs.Common.{◌≡◌, ℕ, zero, suc, ◌+◌, ◌^◌, ◌<◌, ◌≤◌, Bool, true, false, ◌&&◌, nat_lt, nat_le, if◌then◌else◌, List, [], ◌∷◌, ◌++◌, length, map, All, Option, Some, None, Result, Ok, Err, refl, sym, ap, ap₂, subst, ◌∙◌, arith, append_assoc, append-nil}
 use Rattle.std.specs.List.{list_all}
 use Rattle.std.specs.Option.{is_none, option_map_or}
 use Rattle.std.proofs.lemmas.Bool.{and_from, and_parts, le-leb}
@@ -18,7 +18,7 @@ use Rattle.book_core.specs.Contents.{Contents, no_contents}
 use Rattle.validity_core.specs.Good.{is_array}
 use Rattle.result_core.specs.declared.found.Found.{Found}
 use Rattle.position_core.specs.Check.{counted, fitted, refused}
-use Rattle.position_core.specs.Place.{HasPlaces}
+use Rattle.position_core.specs.Place.{HasNumbers, HasPlaces, HasPlacesIfAny, IsAsked, IsSizeOf}
 use Rattle.position_core.specs.Sized.{reshaped}
 use Rattle.position_core.specs.declared.reshape.Fitted.{Fitted}
 use Rattle.position_core.specs.declared.reshape.Fitted.TheVariants.{Size as Fits, Wrong, TooLong}
@@ -26,8 +26,9 @@ use Rattle.position_core.specs.declared.reshape.Reshape.{Reshape}
 use Rattle.position_core.specs.declared.reshape.Size.{Size}
 use Rattle.array_ops.specs.Reshaped.{answered, reshaped_grid, size_of}
 use Rattle.argument_core.specs.Check.{after}
+use Rattle.array_functions.specs.Progression.{unless_refused}
 use Rattle.own_functions.specs.Own.{call_result, own_call, own_result}
-use Rattle.nest_core.specs.Asked.{arguments_refused, asked_of}
+use Rattle.nest_core.specs.Asked.{arguments_refused, asked, asked_of}
 use Rattle.nest_core.specs.Built.{array_found, held_in, is_constant, moved_nest, nest_asked, size_of_nest}
 use Rattle.nest_core.specs.Plain.{arrays_of}
 use Rattle.nest_core.specs.Rows.{rows_in}
@@ -56,12 +57,12 @@ module _ (book : Contents) (limit : ℕ) (cell : CellReferenceIndex) where
       call_result cell (after found (answer limit cell (map (rows_in book) parts)))
       ≡ seen book cell (after found (moved_nest limit (map size_of_nest parts) (map held_in parts)))
   shows-asked parts (Err e) = refl
-  shows-asked parts (Ok asked) =
-      let grid = reshaped_grid asked.reshape (map (rows_in book) parts) asked.pad in
+  shows-asked parts (Ok a) =
+      let grid = reshaped_grid a.reshape (map (rows_in book) parts) a.pad in
       let sizes = map size_of_nest parts in
-      ap (λ ss. answered (refused asked.reshape ss limit) cell grid) (shown-sizes parts)
-      ∙ seen-unless book limit cell (refused asked.reshape sizes limit) (Reshaped asked.reshape (reshaped asked.reshape sizes) sizes (map held_in parts) asked.pad) grid
-      (shown-reshaped book asked.reshape (reshaped asked.reshape sizes) sizes (map held_in parts) asked.pad ∙ ap (λ arrays. reshaped_grid asked.reshape arrays asked.pad) (shown-parts parts))
+      ap (λ ss. answered (refused a.reshape ss limit) cell grid) (shown-sizes parts)
+      ∙ seen-unless book limit cell (refused a.reshape sizes limit) (Reshaped a.reshape (reshaped a.reshape sizes) sizes (map held_in parts) a.pad) grid
+      (shown-reshaped book a.reshape (reshaped a.reshape sizes) sizes (map held_in parts) a.pad ∙ ap (λ arrays. reshaped_grid a.reshape arrays a.pad) (shown-parts parts))
 
   shows-moved : (k : Function) (parts : List PlainNest) (args : List Found) → list_all is_constant args ≡ true →
       own_call book limit cell k (map (array_found book) parts ++ args)
@@ -79,7 +80,7 @@ module _ (book : Contents) (limit : ℕ) (cell : CellReferenceIndex) where
       length parts ≡ arrays_of k (length parts + length args) → list_all is_constant args ≡ true →
       own_result book limit cell k (map (array_found book) parts ++ args) ≡ seen book cell (nest_asked limit cell k parts args)
   shows kind.Sequence [] args h e c = sequence-is book limit cell args ∙ ap (seen book cell) (same-sequence book cell limit args c)
-  shows kind.Sequence (part ∷ parts) args h e c = cc
+  shows kind.Sequence (part ∷ parts) args h e c = absurd (omega (arith, e))
   shows other parts args h e c = shows-moved other parts args c (asks book limit cell other parts args h e refl)
 
 -- ---- sizes that are kept
@@ -121,14 +122,32 @@ by-refusal : (refusal : Option Error) (s : Size) (e : Error) → Wrong e ≡ opt
 by-refusal (Some other) s e h = cc
 by-refusal None s e h = absurd (not-wrong (nat_lt s.rows (2 ^ 64)) (nat_lt s.columns (2 ^ 64)) s e (sym h))
 
-pub fitted-wrong : (reshape : Reshape) (sizes : List Size) (limit : ℕ) (e : Error) → Wrong e ≡ fitted reshape sizes limit → refused reshape sizes limit ≡ Some e
-fitted-wrong reshape sizes limit e h = by-refusal (refused reshape sizes limit) (reshaped reshape sizes) e h
-
 fits-refusal : (refusal : Option Error) (s t : Size) → Fits s ≡ option_map_or Wrong refusal (counted t) → refusal ≡ None
 fits-refusal (Some e) s t h = cc
 fits-refusal None s t h = refl
 
-pub fitted-fits : (reshape : Reshape) (sizes : List Size) (limit : ℕ) (s : Size) → Fits s ≡ fitted reshape sizes limit → refused reshape sizes limit ≡ None
-fitted-fits reshape sizes limit s h = fits-refusal (refused reshape sizes limit) s (reshaped reshape sizes) h
+module _ (reshape : Reshape) (sizes : List Size) (parts : List Nest) (pad : ArrayNode) (limit : ℕ) where
+  pub fits-nest : (found : Fitted) (s : Size) → found ≡ Fits s → found ≡ fitted reshape sizes limit → IsSizeOf reshape sizes found →
+      moved_nest limit sizes parts (asked reshape pad) ≡ Ok (Reshaped reshape s sizes parts pad)
+  fits-nest (Wrong e) s is h k = cc
+  fits-nest TooLong s is h k = cc
+  fits-nest (Fits t) s is h k =
+      let same : t ≡ s = cc in
+      ap (λ refusal. unless_refused refusal (Reshaped reshape (reshaped reshape sizes) sizes parts pad)) (fits-refusal (refused reshape sizes limit) t (reshaped reshape sizes) h)
+      ∙ ap (λ z. Ok (Reshaped reshape z sizes parts pad)) (sym k.1 ∙ same)
+
+  pub wrong-nest : (found : Fitted) (e : Error) → found ≡ Wrong e → found ≡ fitted reshape sizes limit → moved_nest limit sizes parts (asked reshape pad) ≡ Err e
+  wrong-nest found e is h =
+      ap (λ refusal. unless_refused refusal (Reshaped reshape (reshaped reshape sizes) sizes parts pad)) (by-refusal (refused reshape sizes limit) (reshaped reshape sizes) e (sym is ∙ h))
+
+pub fits-sound : (reshape : Reshape) (sizes : List Size) (parts : List Nest) (pad : ArrayNode) (found : Fitted) (s : Size) → found ≡ Fits s → IsSizeOf reshape sizes found →
+    (IsAsked reshape sizes → HasPlacesIfAny found) → HasNumbers reshape → are_sizes sizes (map known parts) ≡ true → 0 < length sizes →
+    is_sound (Reshaped reshape s sizes parts pad) ≡ true
+fits-sound reshape sizes parts pad (Wrong e) s is k places numbers h some = cc
+fits-sound reshape sizes parts pad TooLong s is k places numbers h some = cc
+fits-sound reshape sizes parts pad (Fits t) s is k places numbers h some =
+    let same : t ≡ s = cc in
+    ap (λ z. is_sound (Reshaped reshape z sizes parts pad)) (sym same)
+    ∙ reshaped-sound reshape t sizes parts pad h some k.0 k.1 (places (record { places = all-places sizes parts h; numbers = numbers }))
 
 pub ruleset builts = (cells-sound, literal-sound, shown-cells, shown-literal)

@@ -2,7 +2,7 @@
 --   after-one, after-two   checks in another grouping
 --   asks          by kinds
 --   sequence-is   SEQUENCE
-use Rattle.std.proofs.Common.{◌≡◌, ℕ, zero, suc, ℤ, ◌+◌, ◌×◌, ◌≤◌, Bool, true, false, ◌&&◌, nat_le, if◌then◌else◌, List, [], ◌∷◌, ◌++◌, length, map, Option, Some, None, Result, Ok, Err, unsigned_abs, refl, sym, ap, ap₂, ◌∙◌, arith}
+use Rattle.std.proofs.Common.{◌≡◌, ℕ, zero, suc, ℤ, ◌+◌, ◌≤◌, Bool, true, false, ◌&&◌, nat_le, if◌then◌else◌, List, [], ◌∷◌, ◌++◌, length, map, Option, Some, None, Result, Ok, Err, unsigned_abs, refl, sym, ap, ap₂, ◌∙◌, arith}
 use Rattle.std.proofs.lemmas.Bool.{and_parts, leb-true}
 use Rattle.call_core.specs.declared.function.Function.{Function}
 use Rattle.call_core.specs.declared.function.Function.TheVariants as kind
@@ -80,7 +80,7 @@ by-none P none (a ∷ args) h = absurd (omega (arith, h))
 -- ---- one array, then other arguments
 
 abbrev pub answer : ℕ → CellReferenceIndex → List (List (List ArrayNode)) → Asked → Result CalcResult Error
-answer limit cell arrays asked = Ok (reshaped_answer asked.reshape arrays asked.pad limit cell)
+answer limit cell arrays a = Ok (reshaped_answer a.reshape arrays a.pad limit cell)
 
 -- what is seen of a nest
 abbrev pub seen : Contents → CellReferenceIndex → Result Nest Error → CalcResult
