@@ -1,5 +1,6 @@
 -- Nests that calls come to.
 --   shows         a call of a nest's kinds comes to the array that the nest it asks for is
+--   shows-stopped   the error of a check that isn't passed
 --   literal-sound, cells-sound, reshaped-sound   nests that keep their sizes rightly
 --   part-sizes    the sizes of nests, and what is known of these
 --   fits-nest, wrong-nest, fits-sound   what is made of what is fitted
@@ -16,6 +17,7 @@ use Rattle.value_core.specs.declared.position.CellReferenceIndex.{CellReferenceI
 use Rattle.value_core.specs.declared.position.Range.{Range}
 use Rattle.book_core.specs.Contents.{Contents, no_contents}
 use Rattle.validity_core.specs.Good.{is_array}
+use Rattle.grid_core.specs.declared.calc_result.CalcResult.{CalcResult}
 use Rattle.result_core.specs.declared.found.Found.{Found}
 use Rattle.position_core.specs.Check.{counted, fitted, refused}
 use Rattle.position_core.specs.Place.{HasNumbers, HasPlaces, HasPlacesIfAny, IsAsked, IsSizeOf}
@@ -25,11 +27,13 @@ use Rattle.position_core.specs.declared.reshape.Fitted.TheVariants.{Size as Fits
 use Rattle.position_core.specs.declared.reshape.Reshape.{Reshape}
 use Rattle.position_core.specs.declared.reshape.Size.{Size}
 use Rattle.array_ops.specs.Reshaped.{answered, reshaped_grid, size_of}
-use Rattle.argument_core.specs.Check.{after}
+use Rattle.argument_core.specs.Check.{Gives, after}
+use Rattle.argument_core.specs.declared.stop.Stop.{Stop}
+use Rattle.argument_core.specs.declared.stop.Stop.TheVariants.{Wrong as Stopped, Memory}
 use Rattle.array_functions.specs.Progression.{unless_refused}
 use Rattle.own_functions.specs.Own.{call_result, own_call, own_result}
 use Rattle.nest_core.specs.Asked.{arguments_refused, asked, asked_of}
-use Rattle.nest_core.specs.Built.{array_found, held_in, is_constant, moved_nest, nest_asked, size_of_nest}
+use Rattle.nest_core.specs.Built.{Shows, array_found, held_in, is_constant, moved_nest, nest_asked, size_of_nest}
 use Rattle.nest_core.specs.Plain.{arrays_of}
 use Rattle.nest_core.specs.Rows.{rows_in}
 use Rattle.nest_core.specs.Shown.{are_sizes, has_places, is_sound, known, same_size, shown, size_in}
@@ -82,6 +86,11 @@ module _ (book : Contents) (limit : ℕ) (cell : CellReferenceIndex) where
   shows kind.Sequence [] args h e c = sequence-is book limit cell args ∙ ap (seen book cell) (same-sequence book cell limit args c)
   shows kind.Sequence (part ∷ parts) args h e c = absurd (omega (arith, e))
   shows other parts args h e c = shows-moved other parts args c (asks book limit cell other parts args h e refl)
+
+pub shows-stopped : (book : Contents) (cell : CellReferenceIndex) (stop : Stop) (wanted : Result Nest Error) (result : CalcResult) → Gives (Err stop) wanted → result ≡ seen book cell wanted →
+    Shows book cell (Err stop) result
+shows-stopped book cell (Stopped e) wanted result h k = k ∙ ap (seen book cell) h
+shows-stopped book cell Memory wanted result h k = tt
 
 -- ---- sizes that are kept
 

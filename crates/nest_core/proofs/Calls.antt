@@ -24,7 +24,7 @@ use Rattle.position_core.specs.declared.reshape.Size.{Size}
 use Rattle.position_core.specs.declared.reshape.Reshape.{Reshape}
 use Rattle.position_core.specs.declared.reshape.Reshape.TheVariants as move
 use Rattle.array_ops.specs.Reshaped.{answered, not_available, reshaped_answer, reshaped_grid, size_of}
-use Rattle.array_ops.specs.Sequence.{count_refused, first_of_two, sequence_answer, sequence_grid}
+use Rattle.array_ops.specs.Sequence.{count_refused, first_of_two, sequence_answer, sequence_grid, sequence_refused}
 use Rattle.argument_core.specs.Argument.{array_in, given_if, int_in, or_one, pad_in, size_in}
 use Rattle.argument_core.specs.Check.{after, each, put_before}
 use Rattle.array_functions.specs.Parts.{choice_in, choose_call, count_in, drop_call, take_call}
@@ -97,14 +97,14 @@ module _ (book : Contents) (limit : ℕ) (cell : CellReferenceIndex) where
 
     asks-take : (args : List Found) → take_call book cell (first args) ≡ after (take_asked book cell args) ends
     asks-take [] = refl
-    asks-take (a ∷ []) = after-one (count_in book cell a) (λ n. Ok (asked (move.Take n None) _)) ends
-    asks-take (a ∷ b ∷ []) = after-two (count_in book cell a) (given_if (count_in book cell) (Some b)) (λ m n. Ok (asked (move.Take m n) _)) ends
+    asks-take (a ∷ []) = after-one (count_in book cell a) (λ n. Ok (asked (move.Take n None) not_available)) ends
+    asks-take (a ∷ b ∷ []) = after-two (count_in book cell a) (given_if (count_in book cell) (Some b)) (λ m n. Ok (asked (move.Take m n) not_available)) ends
     asks-take (a ∷ b ∷ c ∷ more) = refl
 
     asks-drop : (args : List Found) → drop_call book cell (first args) ≡ after (drop_asked book cell args) ends
     asks-drop [] = refl
-    asks-drop (a ∷ []) = after-one (int_in book cell a) (λ n. Ok (asked (move.DropOff n None) _)) ends
-    asks-drop (a ∷ b ∷ []) = after-two (int_in book cell a) (given_if (int_in book cell) (Some b)) (λ m n. Ok (asked (move.DropOff m n) _)) ends
+    asks-drop (a ∷ []) = after-one (int_in book cell a) (λ n. Ok (asked (move.DropOff n None) not_available)) ends
+    asks-drop (a ∷ b ∷ []) = after-two (int_in book cell a) (given_if (int_in book cell) (Some b)) (λ m n. Ok (asked (move.DropOff m n) not_available)) ends
     asks-drop (a ∷ b ∷ c ∷ more) = refl
 
     asks-expand : (args : List Found) → expand_call book limit cell (first args) ≡ after (expand_asked book cell (width rows) args) ends
@@ -116,11 +116,11 @@ module _ (book : Contents) (limit : ℕ) (cell : CellReferenceIndex) where
 
     asks-columns : (args : List Found) → choose_call width move.ChooseColumns book cell (first args) ≡ after (choice_asked move.ChooseColumns book cell (width rows) args) ends
     asks-columns [] = refl
-    asks-columns (a ∷ args) = after-one (each (choice_in book cell (width rows)) (a ∷ args)) (λ numbers. Ok (asked (move.ChooseColumns numbers) _)) ends
+    asks-columns (a ∷ args) = after-one (each (choice_in book cell (width rows)) (a ∷ args)) (λ numbers. Ok (asked (move.ChooseColumns numbers) not_available)) ends
 
     asks-rows : (args : List Found) → choose_call height move.ChooseRows book cell (first args) ≡ after (choice_asked move.ChooseRows book cell (height rows) args) ends
     asks-rows [] = refl
-    asks-rows (a ∷ args) = after-one (each (choice_in book cell (height rows)) (a ∷ args)) (λ numbers. Ok (asked (move.ChooseRows numbers) _)) ends
+    asks-rows (a ∷ args) = after-one (each (choice_in book cell (height rows)) (a ∷ args)) (λ numbers. Ok (asked (move.ChooseRows numbers) not_available)) ends
 
     lines : (wrapper : ℕ → Reshape) (pad : ArrayNode) (is : Bool) (r : Result ℕ Error) →
         after (if is then Ok rows else Err VALUE) (λ array. after r (λ count. Ok (reshaped_answer (wrapper count) (array ∷ []) pad limit cell)))
@@ -190,7 +190,8 @@ module _ (book : Contents) (limit : ℕ) (cell : CellReferenceIndex) where
   sequence-answered : (m n start step : ℤ) → count_refused m ≡ None → count_refused n ≡ None → checked (unsigned_abs m) (unsigned_abs n) limit ≡ None →
       sequence_answer m n start step limit cell ≡ calc.Array (shown book (Sequence (size (unsigned_abs m) (unsigned_abs n)) start step))
   sequence-answered m n start step a b c =
-      (λ i. answered (first_of_two (a i) (first_of_two (b i) (c i))) cell (sequence_grid (unsigned_abs m) (unsigned_abs n) start step))
+      let passes : sequence_refused m n limit ≡ None = λ i. first_of_two (a i) (first_of_two (b i) (c i)) in
+      ap (λ refusal. answered refusal cell (sequence_grid (unsigned_abs m) (unsigned_abs n) start step)) passes
       ∙ ap calc.Array (sym (shown-sequence book (size (unsigned_abs m) (unsigned_abs n)) start step))
 
   with-numbers : (m n : ℤ) (t u : Result ℤ Error) → count_refused m ≡ None → count_refused n ≡ None → checked (unsigned_abs m) (unsigned_abs n) limit ≡ None →

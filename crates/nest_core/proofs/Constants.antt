@@ -97,7 +97,7 @@ module _ (book : Contents) (cell : CellReferenceIndex) where
 
   same-choices : (total : ℕ) (args : List Found) → list_all is_constant args ≡ true → each (choice_in book cell total) args ≡ each (choice_in no_contents cell total) args
   same-choices total [] h = refl
-  same-choices total (a ∷ args) h = let p = and_parts _ _ h in ap₂ put_before (same-choice total a p.0) (same-choices total args p.1)
+  same-choices total (a ∷ args) h = let p = and_parts _ _ h in ap₂ (λ x xs. put_before x xs) (same-choice total a p.0) (same-choices total args p.1)
 
   same-choose : (chooser : List ℤ → Reshape) (total : ℕ) (args : List Found) → list_all is_constant args ≡ true →
       choice_asked chooser book cell total args ≡ choice_asked chooser no_contents cell total args
