@@ -2,9 +2,9 @@
 --   shows         a call of a nest's kinds comes to the array that the nest it asks for is
 --   shows-stopped   the error of a check that isn't passed
 --   literal-sound, cells-sound, reshaped-sound   nests that keep their sizes rightly
---   part-sizes    the sizes of nests, and what is known of these
+--   known-parts, kept-sizes, all-places   the sizes of nests, and what is known of these
 --   fits-nest, wrong-nest, fits-sound   what is made of what is fitted
-use Rattle.std.proofs.Common.{◌≡◌, ℕ, zero, suc, ◌+◌, ◌^◌, ◌<◌, ◌≤◌, Bool, true, false, ◌&&◌, nat_lt, nat_le, if◌then◌else◌, List, [], ◌∷◌, ◌++◌, length, map, All, Option, Some, None, Result, Ok, Err, refl, sym, ap, ap₂, subst, ◌∙◌, arith, append_assoc, append-nil}
+use Rattle.std.proofs.Common.{◌≡◌, ℕ, zero, suc, ◌+◌, ◌^◌, ◌<◌, ◌≤◌, Bool, true, false, ◌&&◌, nat_lt, nat_le, if◌then◌else◌, List, [], ◌∷◌, ◌++◌, length, map, All, Option, Some, None, Result, Ok, Err, IsErrAnd, refl, sym, ap, ap₂, subst, ◌∙◌, arith, append_assoc, append-nil}
 use Rattle.std.specs.List.{list_all}
 use Rattle.std.specs.Option.{is_none, option_map_or}
 use Rattle.std.proofs.lemmas.Bool.{and_from, and_parts, le-leb}
@@ -87,10 +87,15 @@ module _ (book : Contents) (limit : ℕ) (cell : CellReferenceIndex) where
   shows kind.Sequence (part ∷ parts) args h e c = absurd (omega (arith, e))
   shows other parts args h e c = shows-moved other parts args c (asks book limit cell other parts args h e refl)
 
-pub shows-stopped : (book : Contents) (cell : CellReferenceIndex) (stop : Stop) (wanted : Result Nest Error) (result : CalcResult) → Gives (Err stop) wanted → result ≡ seen book cell wanted →
+stopped : (book : Contents) (cell : CellReferenceIndex) (stop : Stop) (wanted : Result Nest Error) (result : CalcResult) → Gives (Err stop) wanted → result ≡ seen book cell wanted →
     Shows book cell (Err stop) result
-shows-stopped book cell (Stopped e) wanted result h k = k ∙ ap (seen book cell) h
-shows-stopped book cell Memory wanted result h k = tt
+stopped book cell (Stopped e) wanted result h k = k ∙ ap (seen book cell) h
+stopped book cell Memory wanted result h k = tt
+
+pub shows-stopped : (book : Contents) (cell : CellReferenceIndex) (made : Result PlainNest Stop) (stop : Stop) (wanted : Result Nest Error) (result : CalcResult) →
+    IsErrAnd made (λ s. s ≡ stop) → Gives (Err stop) wanted → result ≡ seen book cell wanted → Shows book cell made result
+shows-stopped book cell (Ok nest) stop wanted result h k l = absurd h
+shows-stopped book cell (Err s) stop wanted result h k l = let F : Stop → Type 0 = λ z. Shows book cell (Err z) result in subst F (sym h) (stopped book cell stop wanted result k l)
 
 -- ---- sizes that are kept
 
@@ -110,6 +115,12 @@ reshaped-sound reshape s sizes parts pad known_sizes some passed whole places =
 pub known-parts : (parts : List PlainNest) → are_sizes (map size_of_nest parts) (map known (map held_in parts)) ≡ true
 known-parts [] = refl
 known-parts (part ∷ parts) = and_from _ _ (and_from _ _ (own-size (size_in part.held) (size_in part.held) refl) part.sound) (known-parts parts)
+
+pub kept-sizes : (all left : List PlainNest) (sizes : List Size) (parts : List Nest) → length left ≡ 0 → sizes ++ map size_of_nest left ≡ map size_of_nest all → parts ++ map held_in left ≡ map held_in all →
+    are_sizes sizes (map known parts) ≡ true
+kept-sizes all [] sizes parts ended h k =
+    ap₂ (λ ss ps. are_sizes ss (map known ps)) (sym (append-nil sizes) ∙ h) (sym (append-nil parts) ∙ k) ∙ known-parts all
+kept-sizes all (part ∷ left) sizes parts ended h k = absurd (omega (arith, ended))
 
 pub all-places : (sizes : List Size) (parts : List Nest) → are_sizes sizes (map known parts) ≡ true → All HasPlaces sizes
 all-places [] [] h = All-nil HasPlaces
