@@ -4,7 +4,7 @@
 --   literal-sound, cells-sound, reshaped-sound   nests that keep their sizes rightly
 --   known-parts, kept-sizes, all-places   the sizes of nests, and what is known of these
 --   fits-nest, wrong-nest, fits-sound   what is made of what is fitted
-use Rattle.std.proofs.Common.{◌≡◌, ℕ, zero, suc, ◌+◌, ◌^◌, ◌<◌, ◌≤◌, Bool, true, false, ◌&&◌, nat_lt, nat_le, if◌then◌else◌, List, [], ◌∷◌, ◌++◌, length, map, All, Option, Some, None, Result, Ok, Err, IsErrAnd, refl, sym, ap, ap₂, subst, ◌∙◌, arith, append_assoc, append-nil}
+use Rattle.std.proofs.Common.{◌≡◌, ℕ, ◌+◌, ◌^◌, ◌<◌, Bool, true, false, ◌&&◌, nat_lt, if◌then◌else◌, List, [], ◌∷◌, ◌++◌, length, map, All, Option, Some, None, Result, Ok, Err, IsErrAnd, refl, sym, ap, ap₂, subst, ◌∙◌, arith, append-nil}
 use Rattle.std.specs.List.{list_all}
 use Rattle.std.specs.Option.{is_none, option_map_or}
 use Rattle.std.proofs.lemmas.Bool.{and_from, and_parts, le-leb}
@@ -36,7 +36,7 @@ use Rattle.nest_core.specs.Asked.{arguments_refused, asked, asked_of}
 use Rattle.nest_core.specs.Built.{Shows, array_found, held_in, is_constant, moved_nest, nest_asked, size_of_nest}
 use Rattle.nest_core.specs.Plain.{arrays_of}
 use Rattle.nest_core.specs.Rows.{rows_in}
-use Rattle.nest_core.specs.Shown.{are_sizes, has_places, is_sound, known, same_size, shown, size_in}
+use Rattle.nest_core.specs.Shown.{are_sizes, is_sound, known, shown, size_in}
 use Rattle.nest_core.specs.declared.asked.Asked.{Asked}
 use Rattle.nest_core.specs.declared.nest.Nest.{Nest}
 use Rattle.nest_core.specs.declared.nest.Nest.TheVariants.{Cells, Literal, Reshaped}

@@ -2,7 +2,7 @@
 --   after-one, after-two   checks in another grouping
 --   asks          by kinds
 --   sequence-is   SEQUENCE
-use Rattle.std.proofs.Common.{◌≡◌, ℕ, zero, suc, ℤ, ◌+◌, ◌≤◌, Bool, true, false, ◌&&◌, nat_le, if◌then◌else◌, List, [], ◌∷◌, ◌++◌, length, map, Option, Some, None, Result, Ok, Err, unsigned_abs, refl, sym, ap, ap₂, ◌∙◌, arith}
+use Rattle.std.proofs.Common.{◌≡◌, ℕ, suc, ℤ, ◌+◌, ◌≤◌, Bool, true, false, nat_le, if◌then◌else◌, List, [], ◌∷◌, ◌++◌, length, map, Option, Some, None, Result, Ok, Err, unsigned_abs, refl, sym, ap, ◌∙◌, arith}
 use Rattle.std.proofs.lemmas.Bool.{and_parts, leb-true}
 use Rattle.call_core.specs.declared.function.Function.{Function}
 use Rattle.call_core.specs.declared.function.Function.TheVariants as kind
@@ -17,7 +17,7 @@ use Rattle.grid_core.specs.declared.calc_result.CalcResult.{CalcResult}
 use Rattle.grid_core.specs.declared.calc_result.CalcResult.TheVariants as calc
 use Rattle.result_core.specs.Finding.{wrong}
 use Rattle.result_core.specs.declared.found.Found.{Found}
-use Rattle.result_core.specs.declared.found.Found.TheVariants.{Cell, Same}
+use Rattle.result_core.specs.declared.found.Found.TheVariants.{Same}
 use Rattle.position_core.specs.Check.{checked, is_line}
 use Rattle.position_core.specs.Sized.{size}
 use Rattle.position_core.specs.declared.reshape.Size.{Size}
@@ -32,7 +32,7 @@ use Rattle.array_functions.specs.Progression.{count_of, sequence_call, unless_la
 use Rattle.array_functions.specs.Sizes.{expand_call, wrap_call}
 use Rattle.array_functions.specs.Stacks.{stack_call}
 use Rattle.own_functions.specs.Own.{call_result, own_call}
-use Rattle.nest_core.specs.Asked.{arguments_refused, asked, asked_of, choice_asked, drop_asked, expand_asked, is_between, is_counted, of_counts, sequence_asked, take_asked, wrap_asked, wrapping}
+use Rattle.nest_core.specs.Asked.{arguments_refused, asked, asked_of, choice_asked, drop_asked, expand_asked, is_between, of_counts, sequence_asked, take_asked, wrap_asked, wrapping}
 use Rattle.nest_core.specs.Built.{array_found}
 use Rattle.nest_core.specs.Plain.{arrays_of, is_sequence}
 use Rattle.nest_core.specs.Rows.{rows_in}

@@ -2,14 +2,13 @@
 --   same-number, same-int, same-count, same-size, same-choice, same-one, same-pad   one argument
 --   same-asked      by kinds
 --   same-sequence   of SEQUENCE
-use Rattle.std.proofs.Common.{◌≡◌, ℕ, ℤ, pos, Bool, true, false, ◌&&◌, if◌then◌else◌, List, [], ◌∷◌, Option, Some, None, Result, Ok, Err, refl, sym, ap, ap₂, ◌∙◌}
+use Rattle.std.proofs.Common.{◌≡◌, ℕ, ℤ, pos, true, if◌then◌else◌, List, [], ◌∷◌, Some, None, Result, Ok, refl, ap, ap₂}
 use Rattle.std.specs.List.{list_all}
 use Rattle.std.proofs.lemmas.Bool.{and_parts}
 use Rattle.call_core.specs.declared.function.Function.{Function}
 use Rattle.call_core.specs.declared.function.Function.TheVariants as kind
 use Rattle.value_core.specs.declared.array.ArrayNode.{ArrayNode}
 use Rattle.value_core.specs.declared.error.Error.{Error}
-use Rattle.value_core.specs.declared.error.Error.TheVariants.{VALUE}
 use Rattle.value_core.specs.declared.position.CellReferenceIndex.{CellReferenceIndex}
 use Rattle.book_core.specs.Contents.{Contents, no_contents}
 use Rattle.grid_core.specs.declared.calc_result.CalcResult.TheVariants as calc
@@ -19,11 +18,11 @@ use Rattle.position_core.specs.Sized.{the}
 use Rattle.position_core.specs.declared.reshape.Size.{Size}
 use Rattle.position_core.specs.declared.reshape.Reshape.{Reshape}
 use Rattle.position_core.specs.declared.reshape.Reshape.TheVariants as move
-use Rattle.argument_core.specs.Argument.{given_if, given_or, int_in, int_of, is_missing, number_in, or_one, pad_in, size_in, size_of, some_of}
+use Rattle.argument_core.specs.Argument.{int_in, int_of, is_missing, number_in, or_one, pad_in, size_in, size_of, some_of}
 use Rattle.argument_core.specs.Check.{after, each, put_before}
 use Rattle.array_functions.specs.Parts.{choice_in, count_in, unless_none, unless_zero}
 use Rattle.array_functions.specs.Progression.{count_of, unless_large}
-use Rattle.nest_core.specs.Asked.{asked, asked_of, choice_asked, drop_asked, expand_asked, of_counts, plainly, sequence_asked, take_asked, unless_block, wrap_asked, wrap_parts, wrapping}
+use Rattle.nest_core.specs.Asked.{asked, asked_of, choice_asked, drop_asked, expand_asked, of_counts, plainly, sequence_asked, take_asked, unless_block, wrap_asked, wrapping}
 use Rattle.nest_core.specs.Built.{is_constant}
 use Rattle.nest_core.specs.declared.asked.Asked.{Asked}
 use Rattle.nest_core.specs.declared.nest.Nest.{Nest}

@@ -2,7 +2,7 @@
 --   at-rectangle     of a rectangle
 --   cells-element, sequence-element, moved-element   of a range, of a sequence, of what is moved
 --   part-within, part-sound, part-falls              the part that a position names
-use Rattle.std.proofs.Common.{◌≡◌, ℕ, zero, suc, ℤ, ap₂, Option, ◌+◌, ◌*◌, ◌<◌, ◌≤◌, Bool, true, false, ◌&&◌, List, [], ◌∷◌, Some, None, length, map, get_or, slice_get, option_and_then, refl, sym, ap, subst, ◌∙◌, arith, rules, nat_le}
+use Rattle.std.proofs.Common.{◌≡◌, ℕ, zero, suc, ℤ, ap₂, Option, ◌+◌, ◌*◌, ◌<◌, ◌≤◌, Bool, true, List, [], ◌∷◌, Some, None, length, map, get_or, slice_get, option_and_then, refl, sym, ap, subst, ◌∙◌, arith, rules}
 use Rattle.std.specs.Option.{is_none}
 use Rattle.std.proofs.lemmas.Bool.{and_parts, leb-true}
 use Rattle.std.proofs.lemmas.List.FromFn.{length-map-range_with_len, get_or-map-range_with_len}
@@ -18,16 +18,15 @@ use Rattle.position_core.specs.Check.{refused}
 use Rattle.position_core.specs.Place.{IsPlace}
 use Rattle.position_core.specs.Position.{position, IsWithin}
 use Rattle.position_core.specs.Sequence.{sequence_element}
-use Rattle.position_core.specs.declared.position.Position.{Position}
-use Rattle.position_core.specs.declared.position.Position.TheVariants.{Part, Pad, NotAvailable}
+use Rattle.position_core.specs.declared.position.Position.TheVariants.{Part}
 use Rattle.position_core.specs.declared.reshape.Size.{Size}
 use Rattle.position_core.specs.declared.reshape.Reshape.{Reshape}
-use Rattle.array_ops.specs.Reshaped.{not_available, picked, reshaped_element, size_of}
-use Rattle.nest_core.specs.Shown.{are_sizes, has_places, is_sheet_size, is_sound, known, known_layer, same_size, shown, size_in}
+use Rattle.array_ops.specs.Reshaped.{picked, reshaped_element, size_of}
+use Rattle.nest_core.specs.Shown.{are_sizes, is_sound, known, known_layer, shown, size_in}
 use Rattle.nest_core.specs.declared.nest.Nest.{Nest, size-Nest, the_lemmas}
 use Rattle.nest_core.specs.declared.nest.Nest.TheOpen.{Nest-F}
-use Rattle.nest_core.specs.declared.nest.Nest.TheVariants.{Cells, Literal, Sequence, Reshaped}
-use Rattle.nest_core.proofs.Nests.{Fits, fits, known-cells, known-reshaped, known-sequence, same-size, shown-cells, shown-reshaped, shown-sequence}
+use Rattle.nest_core.specs.declared.nest.Nest.TheVariants.{Cells, Sequence, Reshaped}
+use Rattle.nest_core.proofs.Nests.{fits, known-cells, known-reshaped, known-sequence, same-size, shown-cells, shown-reshaped, shown-sequence}
 
 slice_get-tabulate : {X : Type 0} (n : ℕ) (f : ℕ → X) (i : ℕ) (d : X) → i < n → slice_get (tabulate n f) i ≡ Some (f i)
 slice_get-tabulate n f i d h =

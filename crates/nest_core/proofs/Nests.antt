@@ -3,16 +3,14 @@
 --   same-size, own-size   two sizes that are one
 --   size-rectangle   the size of a rectangle
 --   Fits, fits    the rectangle of a sound nest is one, of the size that is known
-use Rattle.std.proofs.Common.{◌≡◌, ℕ, ℤ, ◌+◌, ◌*◌, ◌<◌, ◌≤◌, Bool, true, false, ◌&&◌, List, [], ◌∷◌, length, map, refl, sym, ap, ap₂, subst, ◌∙◌, arith, nat_le}
+use Rattle.std.proofs.Common.{◌≡◌, ℕ, ℤ, ◌+◌, ◌*◌, ◌≤◌, Bool, true, List, [], ◌∷◌, map, refl, sym, ap, ap₂, subst, ◌∙◌, arith}
 use Rattle.std.proofs.lemmas.Bool.{and_parts, eqb-true, eq-eqb, leb-true, and_from}
 use Rattle.value_core.specs.declared.array.ArrayNode.{ArrayNode}
 use Rattle.value_core.specs.declared.position.Range.{Range}
-use Rattle.rectangle_core.specs.Rectangle.{rectangle, height, width, IsRectangle}
+use Rattle.rectangle_core.specs.Rectangle.{rectangle, IsRectangle}
 use Rattle.rectangle_core.proofs.Rectangles.{height-rectangle, width-rectangle, rectangle-is}
 use Rattle.book_core.specs.Contents.{Contents, line_count, cell_in}
-use Rattle.validity_core.specs.Good.{is_array}
 use Rattle.position_core.specs.Sized.{size, reshaped}
-use Rattle.position_core.specs.Check.{refused}
 use Rattle.position_core.specs.Sequence.{sequence_element}
 use Rattle.position_core.specs.declared.reshape.Size.{Size}
 use Rattle.position_core.specs.declared.reshape.Reshape.{Reshape}

@@ -5,7 +5,7 @@
 use Rattle.std.proofs.Common.{◌≡◌, ℕ, zero, suc, ◌+◌, ◌-◌, ◌<◌, ◌≤◌, Bool, true, false, ◌&&◌, nat_lt, List, [], ◌∷◌, drop, map, get_or, length, refl, sym, ap, ◌∙◌, arith}
 use Rattle.std.proofs.lemmas.Bool.{lt-ltb}
 use Rattle.tree_core.specs.Formula.{tree_of}
-use Rattle.tree_core.specs.Tree.{Tree, tree, Trees, none, more, forest, under}
+use Rattle.tree_core.specs.Tree.{Tree, tree, forest, under}
 use Rattle.tree_core.specs.declared.node.Node.{Node}
 use Rattle.tree_core.proofs.Views.{part-falls}
 use Rattle.nest_core.specs.Plain.{are_arguments, count_of, is_argument, is_bare_literal, is_literal, is_plain_nest}

@@ -3,7 +3,7 @@
 --   sheet-size    a size that passes its limits
 --   has-places    at least one row and one column
 --   sequence-sound   a sequence of such a size
-use Rattle.std.proofs.Common.{◌≡◌, ℕ, zero, suc, ℤ, pos, negsuc, ◌*◌, ◌<◌, ◌≤◌, ◌==◌, Bool, true, false, ◌&&◌, Option, Some, None, option_map, if◌then◌else◌, nat_le, nat_lt, unsigned_abs, refl, ap, ◌∙◌, arith}
+use Rattle.std.proofs.Common.{◌≡◌, ℕ, zero, suc, ℤ, pos, negsuc, ◌*◌, ◌≤◌, Bool, true, false, Some, None, option_map, if◌then◌else◌, nat_lt, unsigned_abs, refl, ap, ◌∙◌, arith}
 use Rattle.std.proofs.lemmas.Bool.{and_from, le-leb, ltb-false}
 use Rattle.value_core.specs.declared.error.Error.{Error}
 use Rattle.position_core.specs.Check.{checked}
@@ -11,7 +11,7 @@ use Rattle.position_core.specs.Sized.{size}
 use Rattle.position_core.specs.declared.limit.SizeLimit.{SizeLimit}
 use Rattle.position_core.specs.declared.reshape.Size.{Size}
 use Rattle.array_ops.specs.Sequence.{count_refused}
-use Rattle.nest_core.specs.Shown.{has_places, is_sheet_size, is_sound, known}
+use Rattle.nest_core.specs.Shown.{has_places, is_sheet_size, is_sound}
 use Rattle.nest_core.specs.declared.nest.Nest.TheVariants.{Sequence}
 use Rattle.nest_core.proofs.Nests.{known-sequence}
 

@@ -3,7 +3,7 @@
 --   inside, below, beside   the element at a place, and none outside
 --   whole-nest    the rectangle of a nest is that of its elements
 --   counted-nest  how many elements it has
-use Rattle.std.proofs.Common.{◌≡◌, ℕ, zero, suc, ◌+◌, ◌*◌, ◌<◌, ◌≤◌, true, ◌⊎◌, inl, inr, List, [], ◌∷◌, Some, None, length, get_or, slice_get, option_and_then, refl, sym, ap, ap₂, subst, ◌∙◌, arith}
+use Rattle.std.proofs.Common.{◌≡◌, ℕ, zero, suc, ◌*◌, ◌<◌, ◌≤◌, true, ◌⊎◌, inl, inr, List, [], ◌∷◌, Some, None, length, get_or, slice_get, option_and_then, refl, sym, ap, ap₂, subst, ◌∙◌, arith}
 use Rattle.std.proofs.lemmas.Bool.{cases_lt}
 use Rattle.std.proofs.lemmas.Option.{slice_get-get_or}
 use Rattle.value_core.specs.declared.array.ArrayNode.{ArrayNode}
@@ -15,7 +15,7 @@ use Rattle.position_core.specs.declared.reshape.Size.{Size}
 use Rattle.array_ops.specs.Reshaped.{size_of}
 use Rattle.nest_core.specs.Shown.{is_sound, shown, size_in}
 use Rattle.nest_core.specs.declared.nest.Nest.{Nest}
-use Rattle.nest_core.proofs.Nests.{Fits, fits}
+use Rattle.nest_core.proofs.Nests.{fits}
 
 pub sized-nest : (nest : Nest) (book : Contents) → is_sound nest ≡ true → size_in nest ≡ size_of (shown book nest)
 sized-nest nest book h = sym (fits nest h book).sized

@@ -6,7 +6,7 @@
 --   wrapping, wrap_parts       how many elements a line has, and what fills the last one
 --   of_counts, size_asked, sequence_asked   SEQUENCE: its size, and the whole
 --   asked_of        of a call by its kind, the sizes of its arrays, and its other arguments
-use Rattle.std.specs.Prelude.{ℕ, ℤ, nat_le, nat_eq, Bool, false, ◌&&◌, if◌then◌else◌, List, Option, Some, None, Result, Ok, Err, unsigned_abs}
+use Rattle.std.specs.Prelude.{ℕ, ℤ, nat_le, Bool, false, ◌&&◌, if◌then◌else◌, List, Option, Some, None, Result, Ok, Err, unsigned_abs}
 use Rattle.call_core.specs.declared.function.Function.{Function}
 use Rattle.call_core.specs.declared.function.Function.TheVariants as kind
 use Rattle.value_core.specs.declared.array.ArrayNode.{ArrayNode}

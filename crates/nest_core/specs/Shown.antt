@@ -6,7 +6,7 @@
 --   known_layer   a nest by the sizes of its parts: its size, and whether what it keeps of sizes is so
 --   size_in       the size of a nest
 --   is_sound      whether what it keeps of sizes is so, at each of its parts too
-use Rattle.std.specs.Prelude.{ℕ, Bool, true, false, not, ◌&&◌, ◌==◌, nat_le, List, [], ◌∷◌, length}
+use Rattle.std.specs.Prelude.{Bool, true, false, ◌&&◌, ◌==◌, nat_le, List, [], ◌∷◌, length}
 use Rattle.std.specs.Option.{is_none}
 use Rattle.value_core.specs.declared.array.ArrayNode.{ArrayNode}
 use Rattle.book_core.specs.Contents.{Contents, line_count, read}

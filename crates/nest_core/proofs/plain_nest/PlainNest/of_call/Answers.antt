@@ -1,4 +1,4 @@
-use Rattle.std.proofs.Common.{◌≡◌, ap, ◌∙◌}
+use Rattle.std.proofs.Common.{ap, ◌∙◌}
 use Rattle.nest_core.specs.Built.{nest_asked}
 use Rattle.nest_core.proofs.Builts.{shows, shows-stopped}
 use Rattle.nest_core.proofs.Calls.{seen}
