@@ -1,6 +1,8 @@
 -- What a call of a nest's kinds comes to over arrays: its checks behind those of its arrays, and the array that they ask for.
 --   after-one, after-two   checks in another grouping
---   asks          by kinds
+--   Counts, between, by-one, by-none   how many arguments there are
+--   answer, asks  what a kind comes to, by what it asks for
+--   seen, seen-unless   what is seen of a nest, or of an error
 --   sequence-is   SEQUENCE
 use Rattle.std.proofs.Common.{◌≡◌, ℕ, suc, ℤ, ◌+◌, ◌≤◌, Bool, true, false, nat_le, if◌then◌else◌, List, [], ◌∷◌, ◌++◌, length, map, Option, Some, None, Result, Ok, Err, unsigned_abs, refl, sym, ap, ◌∙◌, arith}
 use Rattle.std.proofs.lemmas.Bool.{and_parts, leb-true}

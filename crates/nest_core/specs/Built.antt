@@ -1,8 +1,8 @@
 -- What a call of a nest's kinds comes to, over nests and other arguments that read no cell.
---   is_constant   what came to a result that reads no cell: neither a single cell nor a range
+--   is_constant_result, is_constant   a result that reads no cell: no range; what came to one: neither a single cell nor a range
 --   array_found   a nest as what an argument came to: an array
 --   Shows         a call comes to the array that a nest is, or to an error, which comes from the formula's cell
---   size_of_nest  the size of a nest, over any book
+--   held_in, size_of_nest   a nest as it is compiled, and its size, over any book
 --   moved_nest    the nest of the elements of some nests, moved as a call asks; or the error of the first check of their sizes that isn't passed
 --   nest_asked    the nest that a call asks for, or the error of the first check that isn't passed
 use Rattle.std.specs.Prelude.{◌≡◌, ℕ, Bool, true, false, if◌then◌else◌, List, map, Result, Ok, Err, ⊤}
