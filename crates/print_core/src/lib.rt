@@ -1,11 +1,15 @@
-//! The answer to a formula, and the line in which it is written, straight from its trees: no JSON value in between.
+//! The answer to a formula, and the line in which it is written, straight from its trees: no JSON value in between. The line of
+//! one value.
 //!
 //! - `answer`: `Answer`, and its line; `shape`: the text of a shape.
+//! - `value`: the line of one value.
 #![tactic(auto)]
 
 pub use answer::{Answer, answer_line};
+pub use value::value_line;
 
 mod answer;
 mod shape;
 #[cfg(test)]
 mod tests;
+mod value;

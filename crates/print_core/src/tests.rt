@@ -1,11 +1,11 @@
-use crate::{Answer, answer_line};
+use crate::{Answer, answer_line, value_line};
 use kind_table::StaticResult;
 use rectangle_core::Grid;
 use std::alloc::Global;
 use std::test::Fail;
 use tree_core::{ArrayNode, Node};
 use units_core::Units;
-use value_core::{Memory, Text};
+use value_core::{Error, Memory, Text};
 
 const LINE: &str =
     "{\"exported\":[\"bool\",true],\"given_shape\":\"Array(3,16384)\",\"imported\":[\"at\",true,[\"num\",-2]],\"imported_shape\":\"Scalar\",\"legacy\":[[-2]],\"spilled\":[[null]],\"unit\":{\"currency\":\"€\",\"group_separator\":true,\"kind\":\"Currency\",\"num_fmt\":\"0.0 €\",\"precision\":-1}}\n";
@@ -35,5 +35,15 @@ fn an_answer_is_one_line(rt: HostRuntime) -> Result<(), Fail> {
     };
     let line = answer_line(alloc, &answer)?;
     assert_eq!(rt; line.as_slice(), LINE.as_bytes());
+    Ok(())
+}
+
+#[test]
+fn one_value_is_one_line(rt: HostRuntime) -> Result<(), Fail> {
+    let alloc = rt.alloc();
+    let none = value_line(alloc, None)?;
+    let error = value_line(alloc, Some(&ArrayNode::Error(Error::NA)))?;
+    assert_eq!(rt; none.as_slice(), b"none\n".as_slice());
+    assert_eq!(rt; error.as_slice(), b"{\"error\":\"#N/A\"}\n".as_slice());
     Ok(())
 }
