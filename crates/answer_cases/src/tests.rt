@@ -38,6 +38,10 @@ const UNKNOWN: &str = r#"{"sheets":["Sheet1"],"cells":[],"cell":[0,1,1],"formula
 
 const USAGE: &str = "usage: answer, cell ROW COLUMN or generate N\n";
 
+/// The line on the request that 0 makes.
+const GENERATED: &str =
+    "nodes 138 added 27 kept 0 rows 1000 columns 1 legacy 506450\n";
+
 fn owned(alloc: Global, words: &[&str]) -> Result<Vec<String>, AllocError> {
     let mut all = Vec::new(alloc);
     for word in words {
@@ -47,7 +51,7 @@ fn owned(alloc: Global, words: &[&str]) -> Result<Vec<String>, AllocError> {
 }
 
 /// Words and bytes, what is written, and the status as a code.
-static RUN_CASES: [(&[&str], &str, &str, u8); 11] = [
+static RUN_CASES: [(&[&str], &str, &str, u8); 17] = [
     (&["answer"], COLUMN, COLUMN_ANSWER, 0),
     (&["answer"], RUNS, RUNS_ANSWER, 0),
     (&["answer"], "", "bad json\n", 3),
@@ -57,7 +61,13 @@ static RUN_CASES: [(&[&str], &str, &str, u8); 11] = [
     (&[], COLUMN, USAGE, 2),
     (&["answer", "now"], COLUMN, USAGE, 2),
     (&["cell", "0", "1"], COLUMN, USAGE, 2),
+    (&["answer", "0"], COLUMN, USAGE, 2),
+    (&["generate", "0"], "", GENERATED, 0),
     (&["generate", "01"], COLUMN, USAGE, 2),
+    (&["generate", "1000000"], COLUMN, USAGE, 2),
+    (&["generate", "-1"], COLUMN, USAGE, 2),
+    (&["generate", ""], COLUMN, USAGE, 2),
+    (&["generate"], COLUMN, USAGE, 2),
     (&["--help"], COLUMN, USAGE, 2),
 ];
 

@@ -1,4 +1,5 @@
 pub mod Fits
-mod Words
+pub mod Words
+pub mod Generated
 pub mod Questions
 pub mod Runs

@@ -2,6 +2,7 @@
 --   whole-is      what is read to the end is what a source had
 --   read-least    what is read is no more than that
 --   fed-valid     a source with a valid request gives no bad one
+--   read-refused  without faults, want of memory alone refuses a valid request
 --   fed-refused   without faults, want of memory alone refuses a run that is fed
 --   complete      so it is carried out, or memory ran out
 --   refused       what stands against a request's formula is a reason to refuse it
@@ -12,13 +13,13 @@ use Rattle.device_core.specs.Flow.{Consumes, IsAtEnd}
 use Rattle.validity_core.specs.declared.place.Place.{Place}
 use Rattle.request_core.specs.Request.{Asked, request_of}
 use Rattle.answer_core.specs.declared.command.Command.{Command}
-use Rattle.answer_core.specs.declared.command.Command.TheVariants.{Answer}
+use Rattle.answer_core.specs.declared.command.Command.TheVariants.{Answer, Generate}
 use Rattle.answer_core.specs.declared.refusal.Refusal.{Refusal}
 use Rattle.answer_core.specs.declared.refusal.Refusal.TheVariants.{Usage, ReadFault, TooLong, BadJson, BadRequest, Memory}
 use Rattle.answer_core.specs.declared.status.Status.{Status}
 use Rattle.answer_core.specs.declared.status.Status.TheVariants as status
 use Rattle.answer_core.specs.Refusal.{status_of}
-use Rattle.answer_core.specs.Run.{Trace, ReadsWhole, HasRequest, IsBadRequest, HasReason, IsFed, IsFaultless, IsSent, RefusedBy, bad_of}
+use Rattle.answer_core.specs.Run.{Trace, ReadsWhole, HasRequest, IsBadRequest, IsRefused, HasReason, IsFed, IsFaultless, IsSent, RefusedBy, bad_of}
 
 some-is : {A : Type 0} (x y : A) → Some x ≡ Some y → x ≡ y
 some-is x y e = cc
@@ -55,17 +56,22 @@ module _ (source : Trace) where
   risen : IsFaultless source.faults_before source.faults_now → Rose source.faults_before source.faults_now → ⊥
   risen quiet rose = let same = quiet.stays in let below = quiet.below_end in omega (arith, same, below, rose)
 
+  pub read-refused : (refusal : Refusal) → IsRefused source refusal → HasRequest source.old
+      → IsFaultless source.faults_before source.faults_now → refusal ≡ Memory
+  read-refused Usage reason fed quiet = absurd reason
+  read-refused ReadFault reason fed quiet = absurd (risen quiet reason.0)
+  read-refused TooLong reason fed quiet =
+      let least = read-least source.old source.new fed.bytes reason.bytes fed.told reason.consumed in
+      let most = fed.within in let count = reason.counted in absurd (omega (arith, least, most, count))
+  read-refused BadJson reason fed quiet = absurd (fed-read reason.bytes fed reason.whole reason.is_none)
+  read-refused (BadRequest place) reason fed quiet = absurd (fed-valid place fed reason)
+  read-refused Memory reason fed quiet = refl
+
   pub fed-refused : (command : Option Command) (refusal : Refusal) → HasReason command source refusal → IsFed command source.old
       → IsFaultless source.faults_before source.faults_now → refusal ≡ Memory
   fed-refused None refusal reason fed quiet = absurd fed
-  fed-refused (Some Answer) Usage reason fed quiet = cc
-  fed-refused (Some Answer) ReadFault reason fed quiet = absurd (risen quiet reason.0)
-  fed-refused (Some Answer) TooLong reason fed quiet =
-      let least = read-least source.old source.new fed.bytes reason.bytes fed.told reason.consumed in
-      let most = fed.within in let count = reason.counted in absurd (omega (arith, least, most, count))
-  fed-refused (Some Answer) BadJson reason fed quiet = absurd (fed-read reason.bytes fed reason.whole reason.is_none)
-  fed-refused (Some Answer) (BadRequest place) reason fed quiet = absurd (fed-valid place fed reason)
-  fed-refused (Some Answer) Memory reason fed quiet = refl
+  fed-refused (Some Answer) refusal reason fed quiet = read-refused refusal reason fed quiet
+  fed-refused (Some (Generate seed)) refusal reason fed quiet = reason
 
   pub complete : (command named : Option Command) (sink : Trace) (refusal : Refusal) (text : List ℕ) (wanted result : Status) → named ≡ command
       → wanted ≡ status_of refusal → HasReason named source refusal → IsSent sink text wanted result → IsFed command source.old
@@ -78,10 +84,10 @@ module _ (source : Trace) where
       let stays = heard.stays in let below = heard.below_end in let rose = cut.2 in absurd (omega (arith, stays, below, rose))
 
 pub refused : (source : Trace) (bytes : List ℕ) (asked : Asked) (refusal : Refusal) → ReadsWhole source bytes → request_of bytes ≡ Some asked
-    → RefusedBy (bad_of asked) refusal → HasReason (Some Answer) source refusal
+    → RefusedBy (bad_of asked) refusal → IsRefused source refusal
 refused source bytes asked Usage whole is bad = absurd bad
 refused source bytes asked ReadFault whole is bad = absurd bad
 refused source bytes asked TooLong whole is bad = absurd bad
 refused source bytes asked BadJson whole is bad = absurd bad
 refused source bytes asked (BadRequest place) whole is bad = record { bytes = bytes; whole = whole; request = asked; is_request = is; is_bad = bad }
-refused source bytes asked Memory whole is bad = refl
+refused source bytes asked Memory whole is bad = tt

@@ -2,21 +2,25 @@
 --   Trace, trace  what a device tells before and after, where it tells it (the bytes that a source has left, or that a sink was
 --                 given), and its counts of faults before and after
 --   ReadsWhole    a source was read to its end and gave these bytes, at most 16777216 of them
---   IsAnswered    it gave a request, and the text is the line of an answer to it
 --   setting_of, shown_of, bad_of   what a request is answered in, and by what its unit is found; the first bad place of its formula
+--   AnswersRequest  an answer to a request
+--   IsAnswered    the source gave a request, and the text is the line of an answer to it
+--   IsGenerated   the text is the line on an answer to the request that a number makes
 --   RefusedBy     what stands against a formula: its first bad place, or want of memory
 --   IsNoRequest   it gave bytes that are no request
 --   IsBadRequest  it gave a request whose formula is bad at a place
 --   IsOutput      what a command sends
 --   HasRequest    a source has just the bytes of a valid request
 --   IsFed         a source has just what a command asks of it
---   HasReason     what a refusal stands on: the command, the bytes or the count of faults
+--   TakesNoInput  nothing is read for a command, or for words that are none
+--   IsRefused     what a refusal of a request stands on: the bytes or the count of faults
+--   HasReason     what a refusal stands on: the command, or a request
 --   Intended      the text that a run sets out to write: what the command sends, or the line of a refusal that has its reason
 --   IsSent        the text was written, and the status stays; or the sink refused a call, and a front of it was
 --   Refused       a refusal has its reason, and its line was written
 --   Ended         by the status: its cause, and what was written
 --   IsFaultless   a count of faults stayed, and below its last value
-use Rattle.std.specs.Prelude.{◌≡◌, ℕ, ◌+◌, ◌-◌, ◌^◌, ◌<◌, ◌≤◌, List, length, Option, None, Some, IsSome, ◌⊎◌}
+use Rattle.std.specs.Prelude.{◌≡◌, ℕ, ◌+◌, ◌-◌, ◌^◌, ◌<◌, ◌≤◌, List, length, Option, None, Some, ⊤, ◌⊎◌}
 use Rattle.device_core.specs.Faults.{Rose}
 use Rattle.device_core.specs.Flow.{Consumes, ConsumesAtMost, ConsumesCount, IsAtEnd, Adds, AddsFront}
 use Rattle.device_core.specs.declared.read.TheConstants.{LIMIT}
@@ -25,10 +29,12 @@ use Rattle.validity_core.specs.Place.{bad_place}
 use Rattle.validity_core.specs.declared.place.Place.{Place}
 use Rattle.eval_core.specs.Setting.{Setting, setting}
 use Rattle.request_core.specs.Request.{Asked, request_of}
+use Rattle.generator_core.specs.Line.{summary_line}
+use Rattle.generator_core.specs.Request.{generated}
 use Rattle.print_core.specs.Answer.{answer_line}
 use Rattle.print_core.specs.declared.answer.Answer.{Answer as TheAnswer}
 use Rattle.answer_core.specs.declared.command.Command.{Command}
-use Rattle.answer_core.specs.declared.command.Command.TheVariants.{Answer}
+use Rattle.answer_core.specs.declared.command.Command.TheVariants.{Answer, Generate}
 use Rattle.answer_core.specs.declared.refusal.Refusal.{Refusal}
 use Rattle.answer_core.specs.declared.refusal.Refusal.TheVariants.{Usage, ReadFault, TooLong, BadJson, BadRequest, Memory}
 use Rattle.answer_core.specs.declared.status.Status.{Status}
@@ -58,6 +64,9 @@ setting_of request = setting crate_table request.book request.options.limit requ
 abbrev pub shown_of : Asked → Shown
 shown_of request = shown_by request.first_part request.locale
 
+abbrev pub AnswersRequest : Asked → TheAnswer → Type 0
+AnswersRequest request answer = Answers request.options.rule (setting_of request) (shown_of request) request.formula answer
+
 -- the first bad place of a request's formula
 abbrev pub bad_of : Asked → Option Place
 bad_of request = bad_place crate_table (length request.book.sheets) request.cell request.formula
@@ -77,8 +86,13 @@ pub record IsAnswered (source : Trace) (text : List ℕ) : Type 0 where
   pub request : Asked
   pub is_request : request_of bytes ≡ Some request
   pub answer : TheAnswer
-  pub answers : Answers request.options.rule (setting_of request) (shown_of request) request.formula answer
+  pub answers : AnswersRequest request answer
   pub text_is : text ≡ answer_line answer
+
+pub record IsGenerated (seed : ℕ) (text : List ℕ) : Type 0 where
+  pub answer : TheAnswer
+  pub answers : AnswersRequest (generated seed) answer
+  pub text_is : text ≡ summary_line (generated seed).formula answer
 
 pub record IsNoRequest (source : Trace) : Type 0 where
   pub bytes : List ℕ
@@ -96,6 +110,7 @@ pub record IsBadRequest (source : Trace) (place : Place) : Type 0 where
 abbrev pub IsOutput : Option Command → (source : Trace) → List ℕ → Type 0
 IsOutput None source text = ⊥
 IsOutput (Some Answer) source text = IsAnswered source text
+IsOutput (Some (Generate seed)) source text = IsGenerated seed text
 
 pub record HasRequest (left : Option (List ℕ)) : Type 0 where
   pub bytes : List ℕ
@@ -109,15 +124,28 @@ pub record HasRequest (left : Option (List ℕ)) : Type 0 where
 abbrev pub IsFed : Option Command → (left : Option (List ℕ)) → Type 0
 IsFed None left = ⊥
 IsFed (Some Answer) left = HasRequest left
+IsFed (Some (Generate seed)) left = ⊤
+
+-- one line for each command
+abbrev pub TakesNoInput : Option Command → Type 0
+TakesNoInput None = ⊤
+TakesNoInput (Some Answer) = ⊥
+TakesNoInput (Some (Generate seed)) = ⊤
 
 -- one line for each refusal
+abbrev pub IsRefused : (source : Trace) → Refusal → Type 0
+IsRefused source Usage = ⊥
+IsRefused source ReadFault = Rose source.faults_before source.faults_now × ConsumesAtMost source.old source.new LIMIT
+IsRefused source TooLong = ConsumesCount source.old source.new (LIMIT + 1)
+IsRefused source BadJson = IsNoRequest source
+IsRefused source (BadRequest place) = IsBadRequest source place
+IsRefused source Memory = ⊤
+
+-- one line for each command
 abbrev pub HasReason : Option Command → (source : Trace) → Refusal → Type 0
-HasReason command source Usage = command ≡ None
-HasReason command source ReadFault = Rose source.faults_before source.faults_now × ConsumesAtMost source.old source.new LIMIT
-HasReason command source TooLong = ConsumesCount source.old source.new (LIMIT + 1)
-HasReason command source BadJson = IsNoRequest source
-HasReason command source (BadRequest place) = IsBadRequest source place
-HasReason command source Memory = IsSome command
+HasReason None source refusal = refusal ≡ Usage
+HasReason (Some Answer) source refusal = IsRefused source refusal
+HasReason (Some (Generate seed)) source refusal = refusal ≡ Memory
 
 abbrev pub Intended : Option Command → (source : Trace) → List ℕ → Type 0
 Intended command source text = IsOutput command source text ⊎ ((refusal : Refusal) × HasReason command source refusal × (text ≡ line_of refusal))

@@ -1,6 +1,6 @@
 ghost use Rattle.std.specs.Prelude.{◌≡◌, ◌⊎◌, None};
 ghost use Rattle.answer_core.specs.Command.{command_in};
-ghost use Rattle.answer_core.specs.Run.{IsSent, Ended, IsFed, IsFaultless, trace};
+ghost use Rattle.answer_core.specs.Run.{IsSent, Ended, IsFed, IsFaultless, TakesNoInput, trace};
 
 use crate::command::Command;
 use crate::reading::line_for;
@@ -21,9 +21,11 @@ pub fn run<S: Source, W: Sink>(
         (trace (S.unread source.old) (S.unread source.new) (S.faults source.old) (S.faults source.new))
         (trace (W.written sink.old) (W.written sink.new) (W.faults sink.old) (W.faults sink.new)) result }
 
-    // For words that are no command nothing is read.
-    ensures other_words { command_in words.now ≡ None
-        → (source.new ≡ source.old) × ((result ≡ Status.Usage) ⊎ (result ≡ Status.WriteFault)) }
+    // Words that are no command are told so.
+    ensures other_words { command_in words.now ≡ None → (result ≡ Status.Usage) ⊎ (result ≡ Status.WriteFault) }
+
+    // For these, and for a command that takes no input, nothing is read.
+    ensures untouched { TakesNoInput (command_in words.now) → source.new ≡ source.old }
 
     // A count of faults that rose shows in the status.
     ensures source_count { (S.faults source.new ≡ S.faults source.old)
