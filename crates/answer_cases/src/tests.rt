@@ -39,8 +39,7 @@ const UNKNOWN: &str = r#"{"sheets":["Sheet1"],"cells":[],"cell":[0,1,1],"formula
 const USAGE: &str = "usage: answer, cell ROW COLUMN or generate N\n";
 
 /// The line on the request that 0 makes.
-const GENERATED: &str =
-    "nodes 138 added 27 kept 0 rows 1000 columns 1 legacy 506450\n";
+const GENERATED: &str = "nodes 138 added 27 kept 0 rows 1000 columns 1 legacy 506450\n";
 
 fn owned(alloc: Global, words: &[&str]) -> Result<Vec<String>, AllocError> {
     let mut all = Vec::new(alloc);
