@@ -38,6 +38,14 @@ const UNKNOWN: &str = r#"{"sheets":["Sheet1"],"cells":[],"cell":[0,1,1],"formula
 
 const USAGE: &str = "usage: answer, cell ROW COLUMN or generate N\n";
 
+/// HSTACK(A1:A2,{7}) over an empty sheet.
+const BESIDE: &str =
+    r#"{"sheets":["Sheet1"],"cells":[],"cell":[0,1,5],"formula":["call","HSTACK",["range",0,null,true,true,1,1,true,true,2,1],["array",[[7000000]]]]}"#;
+
+/// TAKE(TRANSPOSE(A:XFD),1,-1), the last cell of the first column, which alone is filled.
+const LAST_OF_ALL: &str =
+    r#"{"sheets":["Sheet1"],"cells":[[0,1048576,1,true]],"cell":[0,1,5],"formula":["call","TAKE",["call","TRANSPOSE",["range",0,null,true,true,1,1,true,true,1048576,16384]],["num",1000000],["num",-1000000]]}"#;
+
 /// The line on the request that 0 makes.
 const GENERATED: &str = "nodes 138 added 27 kept 0 rows 1000 columns 1 legacy 506450\n";
 
@@ -50,7 +58,7 @@ fn owned(alloc: Global, words: &[&str]) -> Result<Vec<String>, AllocError> {
 }
 
 /// Words and bytes, what is written, and the status as a code.
-static RUN_CASES: [(&[&str], &str, &str, u8); 17] = [
+static RUN_CASES: [(&[&str], &str, &str, u8); 30] = [
     (&["answer"], COLUMN, COLUMN_ANSWER, 0),
     (&["answer"], RUNS, RUNS_ANSWER, 0),
     (&["answer"], "", "bad json\n", 3),
@@ -60,6 +68,19 @@ static RUN_CASES: [(&[&str], &str, &str, u8); 17] = [
     (&[], COLUMN, USAGE, 2),
     (&["answer", "now"], COLUMN, USAGE, 2),
     (&["cell", "0", "1"], COLUMN, USAGE, 2),
+    (&["cell", "1", "01"], COLUMN, USAGE, 2),
+    (&["cell", "4294967296", "1"], COLUMN, USAGE, 2),
+    (&["cell", "1"], COLUMN, USAGE, 2),
+    (&["cell", "1", "1"], "", "bad json\n", 3),
+    (&["cell", "1", "1"], UNEVEN, "bad request at node 2\n", 4),
+    (&["cell", "2", "1"], COLUMN, "2000000\n", 0),
+    (&["cell", "4294967295", "1"], COLUMN, "none\n", 0),
+    (&["cell", "1", "2"], BESIDE, "7000000\n", 0),
+    (&["cell", "2", "2"], BESIDE, "{\"error\":\"#N/A\"}\n", 0),
+    (&["cell", "1", "1"], BESIDE, "null\n", 0),
+    (&["cell", "3", "1"], BESIDE, "none\n", 0),
+    (&["cell", "1", "1"], LAST_OF_ALL, "true\n", 0),
+    (&["cell", "1", "1"], RUNS, "1000000\n", 0),
     (&["answer", "0"], COLUMN, USAGE, 2),
     (&["generate", "0"], "", GENERATED, 0),
     (&["generate", "01"], COLUMN, USAGE, 2),

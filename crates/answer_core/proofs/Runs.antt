@@ -13,13 +13,13 @@ use Rattle.device_core.specs.Flow.{Consumes, IsAtEnd}
 use Rattle.validity_core.specs.declared.place.Place.{Place}
 use Rattle.request_core.specs.Request.{Asked, request_of}
 use Rattle.answer_core.specs.declared.command.Command.{Command}
-use Rattle.answer_core.specs.declared.command.Command.TheVariants.{Answer, Generate}
+use Rattle.answer_core.specs.declared.command.Command.TheVariants.{Answer, Cell, Generate}
 use Rattle.answer_core.specs.declared.refusal.Refusal.{Refusal}
 use Rattle.answer_core.specs.declared.refusal.Refusal.TheVariants.{Usage, ReadFault, TooLong, BadJson, BadRequest, Memory}
 use Rattle.answer_core.specs.declared.status.Status.{Status}
 use Rattle.answer_core.specs.declared.status.Status.TheVariants as status
 use Rattle.answer_core.specs.Refusal.{status_of}
-use Rattle.answer_core.specs.Run.{Trace, ReadsWhole, HasRequest, IsBadRequest, IsRefused, HasReason, IsFed, IsFaultless, IsSent, RefusedBy, bad_of}
+use Rattle.answer_core.specs.Run.{Trace, ReadsWhole, GivesRequest, HasRequest, IsBadRequest, IsRefused, HasReason, IsFed, IsFaultless, IsSent, RefusedBy, bad_of}
 
 some-is : {A : Type 0} (x y : A) → Some x ≡ Some y → x ≡ y
 some-is x y e = cc
@@ -41,8 +41,8 @@ bad-valid asked place none some = cc
 module _ (source : Trace) where
   fed-valid : (place : Place) → HasRequest source.old → IsBadRequest source place → ⊥
   fed-valid place fed bad =
-      let same = whole-is source.old source.new fed.bytes bad.bytes fed.told bad.whole.consumed bad.whole.at_end in
-      let one = some-is bad.request fed.request (sym bad.is_request ∙ ap request_of same ∙ fed.is_request) in
+      let same = whole-is source.old source.new fed.bytes bad.given.bytes fed.told bad.given.whole.consumed bad.given.whole.at_end in
+      let one = some-is bad.request fed.request (sym bad.given.is_request ∙ ap request_of same ∙ fed.is_request) in
       bad-valid fed.request place fed.is_valid (ap bad_of (sym one) ∙ bad.is_bad)
 
   fed-read : (bytes : List ℕ) → HasRequest source.old → ReadsWhole source bytes → request_of bytes ≡ None → ⊥
@@ -71,6 +71,7 @@ module _ (source : Trace) where
       → IsFaultless source.faults_before source.faults_now → refusal ≡ Memory
   fed-refused None refusal reason fed quiet = absurd fed
   fed-refused (Some Answer) refusal reason fed quiet = read-refused refusal reason fed quiet
+  fed-refused (Some (Cell row column)) refusal reason fed quiet = read-refused refusal reason fed quiet
   fed-refused (Some (Generate seed)) refusal reason fed quiet = reason
 
   pub complete : (command named : Option Command) (sink : Trace) (refusal : Refusal) (text : List ℕ) (wanted result : Status) → named ≡ command
@@ -83,11 +84,10 @@ module _ (source : Trace) where
   complete command named sink refusal text wanted result same is reason (inr cut) fed quiet heard =
       let stays = heard.stays in let below = heard.below_end in let rose = cut.2 in absurd (omega (arith, stays, below, rose))
 
-pub refused : (source : Trace) (bytes : List ℕ) (asked : Asked) (refusal : Refusal) → ReadsWhole source bytes → request_of bytes ≡ Some asked
-    → RefusedBy (bad_of asked) refusal → IsRefused source refusal
-refused source bytes asked Usage whole is bad = absurd bad
-refused source bytes asked ReadFault whole is bad = absurd bad
-refused source bytes asked TooLong whole is bad = absurd bad
-refused source bytes asked BadJson whole is bad = absurd bad
-refused source bytes asked (BadRequest place) whole is bad = record { bytes = bytes; whole = whole; request = asked; is_request = is; is_bad = bad }
-refused source bytes asked Memory whole is bad = tt
+pub refused : (source : Trace) (asked : Asked) (refusal : Refusal) → GivesRequest source asked → RefusedBy (bad_of asked) refusal → IsRefused source refusal
+refused source asked Usage given bad = absurd bad
+refused source asked ReadFault given bad = absurd bad
+refused source asked TooLong given bad = absurd bad
+refused source asked BadJson given bad = absurd bad
+refused source asked (BadRequest place) given bad = record { request = asked; given = given; is_bad = bad }
+refused source asked Memory given bad = tt

@@ -1,6 +1,6 @@
 -- Words as a list of texts, and words that are numbers.
---   map-one, map-two   one word, two
---   several            more than two
+--   map-one, map-two, map-three   one word, two, three
+--   several            more than three
 --   within, beyond     what is read as a number of 32 bits, and what isn't
 use Rattle.std.proofs.Common.{◌≡◌, ℕ, suc, ◌<◌, ◌≤◌, ◌^◌, ◌≢◌, Bool, true, false, ◌&&◌, not, nat_eq, nat_le, List, [], ◌∷◌, length, get_or, map, cond, inl, inr, refl, ap, ap₂, subst, sym, ◌∙◌, arith, String, Global}
 use Rattle.std.specs.Prelude.{None, Some, Option, Result, Ok, Err, ◌==◌, ◌||◌}
@@ -26,11 +26,20 @@ map-two f (z ∷ []) x y some few e g = absurd (omega arith)
 map-two f (z ∷ w ∷ []) x y some few e g = ap₂ (λ a b. f a ∷ f b ∷ []) (sym e) (sym g)
 map-two f (z ∷ w ∷ v ∷ zs) x y some few e g = absurd (omega arith)
 
-pub several : (words : List (String Global)) → 3 ≤ length words → command_in words ≡ None
+pub map-three : {A B : Type 0} (f : A → B) (xs : List A) (x y z : A) → 3 ≤ length xs → length xs < 4 → x ≡ get_or xs 0 x → y ≡ get_or xs 1 y → z ≡ get_or xs 2 z
+    → map f xs ≡ f x ∷ f y ∷ f z ∷ []
+map-three f [] x y z some few d e g = absurd (omega arith)
+map-three f (a ∷ []) x y z some few d e g = absurd (omega arith)
+map-three f (a ∷ b ∷ []) x y z some few d e g = absurd (omega arith)
+map-three f (a ∷ b ∷ c ∷ []) x y z some few d e g = ap₂ (λ p q. f p ∷ q) (sym d) (ap₂ (λ p q. f p ∷ f q ∷ []) (sym e) (sym g))
+map-three f (a ∷ b ∷ c ∷ o ∷ xs) x y z some few d e g = absurd (omega arith)
+
+pub several : (words : List (String Global)) → 4 ≤ length words → command_in words ≡ None
 several [] many = absurd (omega (arith, many))
 several (word ∷ []) many = absurd (omega (arith, many))
 several (word ∷ next ∷ []) many = absurd (omega (arith, many))
-several (word ∷ next ∷ other ∷ words) many = refl
+several (word ∷ next ∷ third ∷ []) many = absurd (omega (arith, many))
+several (word ∷ next ∷ third ∷ other ∷ words) many = refl
 
 plain-one : (first : ℕ) → (first == 43) ≡ false → first ≢ 43
 plain-one first h = grind (arith, nat_tests)

@@ -4,9 +4,8 @@
 --                   the display unit is that of the given one
 --   FitTheirShapes  both values are rectangles; that of the given formula is no larger than the given shape says, and that of the
 --                   imported one no larger than the imported shape
---   Judges          an answer, or want of memory, where no place of the formula is bad; else the first bad one
 --   most_questions  how often the table of kinds is asked at most
-use Rattle.std.specs.Prelude.{◌≡◌, ℕ, ◌+◌, ◌*◌, true, Option, None, Some, Result, Ok, Err}
+use Rattle.std.specs.Prelude.{◌≡◌, ℕ, ◌+◌, ◌*◌, true}
 use Rattle.rectangle_core.specs.Rectangle.{height, IsRectangle, width}
 use Rattle.kind_table.specs.Fit.{SizeFits}
 use Rattle.kind_table.specs.Table.{Table}
@@ -21,10 +20,7 @@ use Rattle.intersect.specs.Imported.{Imported}
 use Rattle.intersect.specs.Exported.{Exported}
 use Rattle.eval_core.specs.Meaning.{mean}
 use Rattle.eval_core.specs.Setting.{Setting}
-use Rattle.eval_core.specs.declared.fault.Fault.{Fault}
-use Rattle.eval_core.specs.declared.fault.Fault.TheVariants.{BadRequest, Memory}
 use Rattle.units_core.specs.Unit as units
-use Rattle.validity_core.specs.declared.place.Place.{Place}
 use Rattle.print_core.specs.declared.answer.Answer.{Answer}
 use Rattle.answer_core.specs.Shown.{Shown, unit_setting}
 
@@ -42,11 +38,6 @@ pub record FitTheirShapes (answer : Answer) : Type 0 where
   pub legacy_is : IsRectangle answer.legacy
   pub spilled_fits : SizeFits answer.given_shape (height answer.spilled) (width answer.spilled)
   pub legacy_fits : SizeFits answer.imported_shape (height answer.legacy) (width answer.legacy)
-
-abbrev pub Judges : Result Answer Fault → Option Place → Type 0
-Judges (Ok answer) bad = bad ≡ None
-Judges (Err (BadRequest place)) bad = bad ≡ Some place
-Judges (Err Memory) bad = bad ≡ None
 
 abbrev pub questions : (calls ats : ℕ) → ℕ
 questions calls ats = 2 * calls * ((ats + 1) * (ats + 1) + 2)

@@ -4,7 +4,10 @@
 --   ReadsWhole    a source was read to its end and gave these bytes, at most 16777216 of them
 --   setting_of, shown_of, bad_of   what a request is answered in, and by what its unit is found; the first bad place of its formula
 --   AnswersRequest  an answer to a request
---   IsAnswered    the source gave a request, and the text is the line of an answer to it
+--   IsWithin      a request has a formula and a limit as small as the form demands
+--   GivesRequest  a source was read to its end and gave a request
+--   IsAnswered    it gave one, and the text is the line of an answer to it
+--   IsElement     it gave one, and the text is the line of the element of its value at a row and column from 1, if there is one
 --   IsGenerated   the text is the line on an answer to the request that a number makes
 --   RefusedBy     what stands against a formula: its first bad place, or want of memory
 --   IsNoRequest   it gave bytes that are no request
@@ -25,16 +28,22 @@ use Rattle.device_core.specs.Faults.{Rose}
 use Rattle.device_core.specs.Flow.{Consumes, ConsumesAtMost, ConsumesCount, IsAtEnd, Adds, AddsFront}
 use Rattle.device_core.specs.declared.read.TheConstants.{LIMIT}
 use Rattle.kind_table.specs.CrateTable.{crate_table}
+use Rattle.tree_core.specs.Count.{size_of}
+use Rattle.tree_core.specs.Formula.{tree_of}
 use Rattle.validity_core.specs.Place.{bad_place}
 use Rattle.validity_core.specs.declared.place.Place.{Place}
+use Rattle.eval_core.specs.Meaning.{mean}
 use Rattle.eval_core.specs.Setting.{Setting, setting}
 use Rattle.request_core.specs.Request.{Asked, request_of}
+use Rattle.request_core.specs.declared.request.Request.{Request}
 use Rattle.generator_core.specs.Line.{summary_line}
 use Rattle.generator_core.specs.Request.{generated}
 use Rattle.print_core.specs.Answer.{answer_line}
+use Rattle.print_core.specs.ValueLine.{value_line}
+use Rattle.view_core.specs.Viewed.{value_at}
 use Rattle.print_core.specs.declared.answer.Answer.{Answer as TheAnswer}
 use Rattle.answer_core.specs.declared.command.Command.{Command}
-use Rattle.answer_core.specs.declared.command.Command.TheVariants.{Answer, Generate}
+use Rattle.answer_core.specs.declared.command.Command.TheVariants.{Answer, Cell, Generate}
 use Rattle.answer_core.specs.declared.refusal.Refusal.{Refusal}
 use Rattle.answer_core.specs.declared.refusal.Refusal.TheVariants.{Usage, ReadFault, TooLong, BadJson, BadRequest, Memory}
 use Rattle.answer_core.specs.declared.status.Status.{Status}
@@ -80,14 +89,26 @@ RefusedBy bad BadJson = ⊥
 RefusedBy bad (BadRequest place) = bad ≡ Some place
 RefusedBy bad Memory = bad ≡ None
 
-pub record IsAnswered (source : Trace) (text : List ℕ) : Type 0 where
+pub record IsWithin (request : Request) : Type 0 where
+  pub nodes : size_of (tree_of request.formula) ≤ 16777216
+  pub cells : request.options.limit ≤ 16777216
+
+pub record GivesRequest (source : Trace) (request : Asked) : Type 0 where
   pub bytes : List ℕ
   pub whole : ReadsWhole source bytes
-  pub request : Asked
   pub is_request : request_of bytes ≡ Some request
+
+pub record IsAnswered (source : Trace) (text : List ℕ) : Type 0 where
+  pub request : Asked
+  pub given : GivesRequest source request
   pub answer : TheAnswer
   pub answers : AnswersRequest request answer
   pub text_is : text ≡ answer_line answer
+
+pub record IsElement (row column : ℕ) (source : Trace) (text : List ℕ) : Type 0 where
+  pub request : Asked
+  pub given : GivesRequest source request
+  pub text_is : text ≡ value_line (value_at (mean (setting_of request) request.formula) row column)
 
 pub record IsGenerated (seed : ℕ) (text : List ℕ) : Type 0 where
   pub answer : TheAnswer
@@ -100,16 +121,15 @@ pub record IsNoRequest (source : Trace) : Type 0 where
   pub is_none : request_of bytes ≡ None
 
 pub record IsBadRequest (source : Trace) (place : Place) : Type 0 where
-  pub bytes : List ℕ
-  pub whole : ReadsWhole source bytes
   pub request : Asked
-  pub is_request : request_of bytes ≡ Some request
+  pub given : GivesRequest source request
   pub is_bad : bad_of request ≡ Some place
 
 -- one line for each command
 abbrev pub IsOutput : Option Command → (source : Trace) → List ℕ → Type 0
 IsOutput None source text = ⊥
 IsOutput (Some Answer) source text = IsAnswered source text
+IsOutput (Some (Cell row column)) source text = IsElement row column source text
 IsOutput (Some (Generate seed)) source text = IsGenerated seed text
 
 pub record HasRequest (left : Option (List ℕ)) : Type 0 where
@@ -124,12 +144,14 @@ pub record HasRequest (left : Option (List ℕ)) : Type 0 where
 abbrev pub IsFed : Option Command → (left : Option (List ℕ)) → Type 0
 IsFed None left = ⊥
 IsFed (Some Answer) left = HasRequest left
+IsFed (Some (Cell row column)) left = HasRequest left
 IsFed (Some (Generate seed)) left = ⊤
 
 -- one line for each command
 abbrev pub TakesNoInput : Option Command → Type 0
 TakesNoInput None = ⊤
 TakesNoInput (Some Answer) = ⊥
+TakesNoInput (Some (Cell row column)) = ⊥
 TakesNoInput (Some (Generate seed)) = ⊤
 
 -- one line for each refusal
@@ -145,6 +167,7 @@ IsRefused source Memory = ⊤
 abbrev pub HasReason : Option Command → (source : Trace) → Refusal → Type 0
 HasReason None source refusal = refusal ≡ Usage
 HasReason (Some Answer) source refusal = IsRefused source refusal
+HasReason (Some (Cell row column)) source refusal = IsRefused source refusal
 HasReason (Some (Generate seed)) source refusal = refusal ≡ Memory
 
 abbrev pub Intended : Option Command → (source : Trace) → List ℕ → Type 0

@@ -3,12 +3,13 @@ ghost use Rattle.tree_core.specs.Count.{calls_of, size_of};
 ghost use Rattle.tree_core.specs.Formula.{tree_of};
 ghost use Rattle.validity_core.specs.Place.{bad_place};
 ghost use Rattle.eval_core.specs.Setting.{setting};
-ghost use Rattle.answer_core.specs.Answers.{Answers, FitTheirShapes, Judges, most_questions};
+ghost use Rattle.answer_core.specs.Answers.{Answers, FitTheirShapes, most_questions};
+ghost use Rattle.view_core.specs.Viewed.{Judges};
 ghost use Rattle.answer_core.specs.Shown.{shown_by};
 ghost use Rattle.answer_core.specs.Parts.{AreFormulas, AreMeant, AreRectangles, AreShapes, AreValues, AreWritten, formula_questions};
 
 use book_core::Reads;
-use eval_core::{Evaluator, Fault, valid};
+use eval_core::{Fault, valid};
 use intersect::{ImportRule, exported, imported};
 use kind_table::{Asks, Kinds, StaticResult};
 use print_core::Answer;
@@ -17,6 +18,7 @@ use shape_core::run_static_analysis_on_node;
 use std::alloc::Global;
 use tree_core::{CellReferenceIndex, Memory, Node, Plain, Steps};
 use units_core::{Formats, Locale, Units, compute_node_units};
+use view_core::ViewEvaluator;
 
 /// The answer to a formula in a cell of a book, by a table of kinds and a rule of import; `limit`, at most 16777216, is
 /// the greatest number of cells of an array that a function makes. Its display unit is found by what is known of number formats
@@ -220,7 +222,7 @@ fn values_of<K: Kinds, B: Reads<Plain>>(
     ensures made { IfOk result (AreValues (setting (K.table kinds.now) (B.contents book.now) limit cell) (tree_of given.now) (tree_of imported.now)) }
     ensures rectangles { IfOk result AreRectangles }
 {
-    let evaluator = Evaluator { kinds, book, limit };
+    let evaluator = ViewEvaluator { kinds, book, limit };
     let mut reads = Steps::new(Plain);
     let spilled = evaluator.formula_value(alloc, given, cell, &mut reads)?;
     let legacy = evaluator.formula_value(alloc, imported, cell, &mut reads)?;

@@ -1,11 +1,13 @@
 ghost use Rattle.std.specs.Prelude.{◌≡◌};
-ghost use Rattle.answer_core.specs.Command.{at_most, begins_in_vain, command_in, command_of_one, command_of_two, number_in};
+ghost use Rattle.answer_core.specs.Command.{at_most, begins_in_vain, cell_of, command_in, command_of_one, command_of_three, command_of_two, number_in, place_in};
 
 /// What the words behind the program's name ask for.
 #[derive(Clone, Copy, Debug)]
 pub(crate) enum Command {
     /// The answer to the request that the source has.
     Answer,
+    /// The element of a formula's value at a row and a column, counted from 1, by the request that the source has.
+    Cell { row: u32, column: u32 },
     /// A line on the answer to the request that a number makes.
     Generate(u32),
 }
@@ -18,6 +20,7 @@ impl Command {
         match words {
             [word] => command_of_one(word.as_str()),
             [word, number] => command_of_two(word.as_str(), number.as_str()),
+            [word, row, column] => command_of_three(word.as_str(), row.as_str(), column.as_str()),
             _ => None,
         }
     }
@@ -38,6 +41,34 @@ fn command_of_two(word: &str, number: &str) -> Option<Command>
     match word {
         "generate" => number_in(999999, number).map(Command::Generate),
         _ => None,
+    }
+}
+
+fn command_of_three(word: &str, row: &str, column: &str) -> Option<Command>
+    ensures { result ≡ command_of_three word.now row.now column.now }
+{
+    match word {
+        "cell" => cell_of(place_in(row), place_in(column)),
+        _ => None,
+    }
+}
+
+fn cell_of(row: Option<u32>, column: Option<u32>) -> Option<Command>
+    ensures { result ≡ cell_of row column }
+{
+    match (row, column) {
+        (Some(row), Some(column)) => Some(Command::Cell { row, column }),
+        _ => None,
+    }
+}
+
+/// The row or column that a word is, from 1.
+fn place_in(word: &str) -> Option<u32>
+    ensures { result ≡ place_in word.now }
+{
+    match number_in(u32::MAX, word) {
+        Some(0) => None,
+        number => number,
     }
 }
 

@@ -6,7 +6,7 @@ use Rattle.request_core.specs.Request.{Asked, asked_of}
 use Rattle.tree_core.specs.Count.{size_of}
 use Rattle.tree_core.specs.Formula.{tree_of}
 use Rattle.answer_core.specs.Run.{AnswersRequest}
-use Rattle.answer_core.proofs.Generated.{exported-few, few-nodes, imported-few, only-memory}
+use Rattle.answer_core.proofs.Generated.{exported-few, few-cells, few-nodes, imported-few, only-memory}
 use Rattle.answer_core.proofs.reading.generated_line.Goals as goal
 
 pub returns-in_err-answer-clause-refusal : goal.returns-in_err-answer-clause-refusal
@@ -32,4 +32,10 @@ returns-clause-line c = record {
   answer = c.in_ok-answer.answer;
   answers = subst (λ (request : Asked). AnswersRequest request c.in_ok-answer.answer) c.requires c.in_ok-answer.ensures.answers;
   text_is = c.in_ok-line.ensures ∙ ap (λ (request : Asked). summary_line request.formula c.in_ok-answer.answer) c.requires;
+}
+
+pub answer_to-requires : goal.answer_to-requires
+answer_to-requires c = record {
+  nodes = let few = few-nodes c.args.seed (asked_of c.args.request.now) c.requires in omega (arith, few);
+  cells = few-cells c.args.seed (asked_of c.args.request.now) c.requires;
 }
