@@ -146,19 +146,19 @@ static REFERENCES: [(&str, &str, &str); 45] = [
         r#"["call","INDIRECT",["text","A1"],["empty"]]"#,
         r##"[[{"error":"#REF!"}]]"##,
     ),
-    // FORMULATEXT(D1)
+    // FORMULATEXT($D$1)
     (
         "[0,1,6]",
         r#"["call","FORMULATEXT",["ref",0,null,true,true,1,4]]"#,
         r#"[["=SUM(A1:C1)"]]"#,
     ),
-    // FORMULATEXT(A1)
+    // FORMULATEXT($A$1)
     (
         "[0,1,6]",
         r#"["call","FORMULATEXT",["ref",0,null,true,true,1,1]]"#,
         r##"[[{"error":"#N/A"}]]"##,
     ),
-    // FORMULATEXT(A1:A2)
+    // FORMULATEXT($A$1:$A$2)
     (
         "[0,1,6]",
         r#"["call","FORMULATEXT",["range",0,null,true,true,1,1,true,true,2,1]]"#,
