@@ -1,6 +1,6 @@
 -- Delimiters match whole characters.
 --   low-same      bytes that are alike are equal in lower case
---   firsts        where a delimiter matches, the first bytes are alike
+--   firsts-apart  where the first bytes are not alike, a delimiter does not match
 --   match-whole   where a delimiter matches, characters begin before and behind it
 --   none-empty-at a delimiter of a list without empty ones
 use Rattle.std.proofs.Common.{◌≡◌, ℕ, ◌+◌, ◌<◌, ◌≤◌, Bool, true, false, ◌&&◌, nat_le, List, [], ◌∷◌, length, get_or, map, take, drop, refl, sym, ap, subst, ◌∙◌, IsUtf8, IsCharBoundary, arith}
@@ -12,7 +12,7 @@ use Rattle.std.proofs.lemmas.List.Folds.{list_all_at}
 use Rattle.std.proofs.lemmas.Slice.Eq.{bytes_eq-Decides}
 use Rattle.std.proofs.lemmas.Str.{IsCharBoundary-from_rest, IsCharBoundary-from_take, IsCharBoundary-start, IsUtf8-drop}
 use Rattle.split_core.proofs.Lowered.{high-low, lowered}
-use Rattle.split_core.specs.Pieces.{IsMatch, begins, firsts_alike, none_empty, same_bytes}
+use Rattle.split_core.specs.Pieces.{IsMatch, begins, none_empty, same_bytes}
 
 both : (a b : Bool) → (a && b) ≡ true → (a ≡ true) × (b ≡ true)
 both true b h = (refl, h)
@@ -56,13 +56,19 @@ ends-whole rest d whole utf8 fits same =
 first-alike : (byte first : ℕ) → to_ascii_lowercase byte ≡ to_ascii_lowercase first → eq_ignore_ascii_case byte first ≡ true
 first-alike byte first h = grind (arith, nat_tests)
 
-pub firsts : (blind : Bool) (text d : List ℕ) → begins blind text d ≡ true → firsts_alike text d ≡ true
-firsts blind [] d h = refl
-firsts blind (byte ∷ text) [] h = refl
-firsts blind (byte ∷ text) (first ∷ d) h =
+alike : (blind : Bool) (byte first : ℕ) (text d : List ℕ) → begins blind (byte ∷ text) (first ∷ d) ≡ true → eq_ignore_ascii_case byte first ≡ true
+alike blind byte first text d h =
     let parts = both (nat_le (length (first ∷ d)) (length (byte ∷ text))) (same_bytes blind (take (length (first ∷ d)) (byte ∷ text)) (first ∷ d)) h in
     let same : map to_ascii_lowercase (take (length (first ∷ d)) (byte ∷ text)) ≡ map to_ascii_lowercase (first ∷ d) = low-same blind (take (length (first ∷ d)) (byte ∷ text)) (first ∷ d) parts.1 in
     first-alike byte first (ap (λ bytes. get_or bytes 0 0) same)
+
+apart : (answer : Bool) (blind : Bool) (byte first : ℕ) (text d : List ℕ) → begins blind (byte ∷ text) (first ∷ d) ≡ answer → eq_ignore_ascii_case byte first ≡ false → answer ≡ false
+apart true blind byte first text d h e = absurd (false≢true (sym e ∙ alike blind byte first text d h))
+apart false blind byte first text d h e = refl
+
+pub firsts-apart : (blind : Bool) (byte : ℕ) (text d : List ℕ) → 1 ≤ length d → eq_ignore_ascii_case byte (get_or d 0 0) ≡ false → begins blind (byte ∷ text) d ≡ false
+firsts-apart blind byte text [] some e = absurd (omega (arith, some))
+firsts-apart blind byte text (first ∷ d) some e = apart (begins blind (byte ∷ text) (first ∷ d)) blind byte first text d refl e
 
 pub match-whole : (blind : Bool) (text d : List ℕ) (place : ℕ) → IsUtf8 text → IsUtf8 d → place ≤ length text → 1 ≤ length d → begins blind (drop place text) d ≡ true → IsMatch text place (length d)
 match-whole blind text d place utf8 delimiter within some h =

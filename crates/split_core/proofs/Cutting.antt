@@ -5,6 +5,7 @@
 --   rest-cut      a delimiter
 --   rest-end      the last piece
 --   rest-first    all pieces
+--   uncut         the one piece where there are no delimiters
 --   kept-cut, kept-end   what is kept of them
 use Rattle.std.proofs.Common.{◌≡◌, ℕ, zero, suc, ◌+◌, ◌-◌, ◌<◌, ◌≤◌, Bool, List, [], ◌∷◌, ◌++◌, length, get_or, take, drop, Option, Some, None, refl, sym, ap, ap₂, ◌∙◌, append_assoc, arith}
 use Rattle.std.specs.List.{filter}
@@ -82,6 +83,10 @@ rest-end b ds xs start h =
 pub rest-first : (b : Bool) (ds : List (List ℕ)) (xs : List ℕ) → rest_pieces b ds xs 0 0 ≡ pieces b ds xs
 unfolding rest_pieces
 rest-first b ds xs = front-nothing (pieces_past b ds 0 xs)
+
+pub uncut : (b : Bool) (xs : List ℕ) → pieces b [] xs ≡ xs ∷ []
+uncut b [] = refl
+uncut b (x ∷ xs) = ap (in_front (x ∷ [])) (uncut b xs)
 
 -- the same of those that are kept, behind what was found before
 pub kept-cut : (q : List ℕ → Bool) (b : Bool) (ds : List (List ℕ)) (xs : List ℕ) (start place n : ℕ) (found more all : List (List ℕ)) → place < length xs → start ≤ place → 1 ≤ n → matched b ds (drop place xs) ≡ Some n

@@ -1,4 +1,5 @@
 pub mod Boundaries
 pub mod Cutting
+pub mod Firsts
 pub mod Joined
 pub mod Lowered

@@ -1,17 +1,16 @@
 -- A text cut at delimiters. Places are those of bytes.
 --   same_bytes   whether bytes are alike: equal, or where the case is not looked at, equal but for the case of ASCII letters
 --   begins       whether a text begins with a delimiter
---   firsts_alike whether the first byte of a text and that of a delimiter are equal but for the case of ASCII letters
 --   none_empty   whether no delimiter of a list is empty
 --   matched      how long the first delimiter of a list is with which a text begins
+--   HasFirsts    a table that says of each byte whether a delimiter may match where it stands: where it says no, none does
 --   pieces       the pieces of a text between the delimiters
 --   IsFree       no delimiter matches at any of the first so many places of a text
 --   EndsAt       a text is a piece, the first delimiter that matches behind it and a rest, and none matches inside the piece
 --   AreCut       some pieces, with the delimiters between them as they were found, are the text, and none matches inside a piece
 --   IsMatch      a delimiter of so many bytes matches at a place: characters begin, or the text ends, before and behind it
-use Rattle.std.specs.Prelude.{◌≡◌, ℕ, zero, suc, ◌+◌, ◌-◌, ◌<◌, ◌≤◌, nat_le, Bool, true, ◌&&◌, ◌⊎◌, if◌then◌else◌, Option, Some, None, List, [], ◌∷◌, ◌++◌, length, take, drop}
+use Rattle.std.specs.Prelude.{◌≡◌, ℕ, zero, suc, ◌+◌, ◌-◌, ◌<◌, ◌≤◌, nat_le, Bool, false, ◌&&◌, ◌⊎◌, if◌then◌else◌, Option, Some, None, List, [], ◌∷◌, ◌++◌, length, get_or, take, drop}
 use Rattle.std.specs.List.{list_all}
-use Rattle.std.specs.Char.{eq_ignore_ascii_case}
 use Rattle.std.specs.Str.{bytes_eq, str_eq_ignore_ascii_case, IsCharBoundary}
 
 abbrev pub same_bytes : Bool → List ℕ → List ℕ → Bool
@@ -20,17 +19,15 @@ same_bytes blind left right = if blind then str_eq_ignore_ascii_case left right 
 abbrev pub begins : Bool → List ℕ → List ℕ → Bool
 begins blind text delimiter = nat_le (length delimiter) (length text) && same_bytes blind (take (length delimiter) text) delimiter
 
-abbrev pub firsts_alike : List ℕ → List ℕ → Bool
-firsts_alike [] delimiter = true
-firsts_alike (byte ∷ text) [] = true
-firsts_alike (byte ∷ text) (first ∷ delimiter) = eq_ignore_ascii_case byte first
-
 abbrev pub none_empty : List (List ℕ) → Bool
 none_empty delimiters = list_all (λ delimiter. nat_le 1 (length delimiter)) delimiters
 
 abbrev pub matched : Bool → List (List ℕ) → List ℕ → Option ℕ
 matched blind [] text = None
 matched blind (delimiter ∷ delimiters) text = if begins blind text delimiter then Some (length delimiter) else matched blind delimiters text
+
+abbrev pub HasFirsts : List (List ℕ) → List Bool → Type 0
+HasFirsts delimiters firsts = (blind : Bool) (byte : ℕ) (text : List ℕ) → byte < 256 → get_or firsts byte false ≡ false → matched blind delimiters (byte ∷ text) ≡ None
 
 -- some bytes in front of the first piece
 abbrev pub in_front : List ℕ → List (List ℕ) → List (List ℕ)

@@ -5,6 +5,7 @@ pub use laws::pieces_are_cut;
 pub use matching::none_empty;
 pub use split::split_text;
 
+mod delimiters;
 mod laws;
 mod matching;
 mod pieces;

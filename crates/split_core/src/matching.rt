@@ -1,6 +1,6 @@
 ghost use Rattle.std.specs.Prelude.{◌≡◌, ◌≤◌, IfSome, IsTrue, drop, length};
 ghost use Rattle.std.specs.Str.{bytes_eq, str_eq_ignore_ascii_case};
-ghost use Rattle.split_core.specs.Pieces.{IsMatch, begins, firsts_alike, matched, none_empty, same_bytes};
+ghost use Rattle.split_core.specs.Pieces.{IsMatch, begins, matched, none_empty, same_bytes};
 
 use value_core::Text;
 
@@ -38,22 +38,11 @@ fn begins(blind: bool, text: &str, place: usize, delimiter: &str) -> bool
     begins_with(blind, &text.as_bytes()[place..], delimiter.as_bytes())
 }
 
-/// As `begins`, of bytes. The first bytes are looked at first, since at most places they decide.
+/// As `begins`, of bytes.
 fn begins_with(blind: bool, text: &[u8], delimiter: &[u8]) -> bool
     ensures { result ≡ begins blind text.now delimiter.now }
 {
-    firsts_alike(text, delimiter)
-        && delimiter.len() <= text.len()
-        && same_bytes(blind, &text[..delimiter.len()], delimiter)
-}
-
-fn firsts_alike(text: &[u8], delimiter: &[u8]) -> bool
-    ensures { result ≡ firsts_alike text.now delimiter.now }
-{
-    match (text.first(), delimiter.first()) {
-        (Some(byte), Some(first)) => byte.eq_ignore_ascii_case(first),
-        _ => true,
-    }
+    delimiter.len() <= text.len() && same_bytes(blind, &text[..delimiter.len()], delimiter)
 }
 
 fn same_bytes(blind: bool, left: &[u8], right: &[u8]) -> bool

@@ -2,6 +2,7 @@ ghost use Rattle.std.specs.Prelude.{◌≡◌, ◌≤◌, IfOk, IsTrue, length, 
 ghost use Rattle.split_core.specs.Pieces.{none_empty};
 ghost use Rattle.split_core.specs.Split.{kept_pieces, longest, padded, piece_at, rows_of_pieces, split_text};
 
+use crate::delimiters::Delimiters;
 use crate::pieces::{Manner, kept_pieces};
 use call_core::{Plain, Steps};
 use rectangle_core::{Grid, View, grid_of};
@@ -11,7 +12,7 @@ use value_core::{ArrayNode, Memory, Text};
 /// Some rows of pieces as a rectangle: a row that is shorter than the longest ends in pads.
 #[derive(Drop)]
 struct PaddedRows<'a> {
-    rows: &'a [Vec<Text>],
+    rows: &'a [Vec<&'a str>],
     columns: usize,
     pad: &'a ArrayNode,
     ghost some_row: { 1 ≤ length rows.now },
@@ -23,7 +24,7 @@ impl<'a, L> View<L> for PaddedRows<'a> {
 
     ghost column_count = { λ padded. padded.columns };
 
-    ghost element = { λ padded i j. piece_at padded.pad.now (map (λ row. row.items) padded.rows.now) i j };
+    ghost element = { λ padded i j. piece_at padded.pad.now (map (λ row. map (λ piece. piece.now) row.items) padded.rows.now) i j };
 
     fn rows(&self) -> usize {
         self.rows.len()
@@ -41,7 +42,7 @@ impl<'a, L> View<L> for PaddedRows<'a> {
         _steps: &mut Steps<L>,
     ) -> Result<ArrayNode, Memory> {
         match self.rows[row].get(column) {
-            Some(piece) => Ok(ArrayNode::String(piece.try_clone(alloc)?)),
+            Some(piece) => Ok(ArrayNode::String(Text::from_text(alloc, piece)?)),
             None => self.pad.try_clone(alloc),
         }
     }
@@ -70,31 +71,32 @@ pub fn split_text(
         ignore_empty,
         blind,
     };
-    let rows = kept_pieces(alloc, manner, row_delimiters, text)?;
-    let rows = each_cut(alloc, manner, column_delimiters, rows.as_slice())?;
+    let row_delimiters = Delimiters::new(row_delimiters);
+    let column_delimiters = Delimiters::new(column_delimiters);
+    let rows = kept_pieces(alloc, manner, &row_delimiters, text)?;
+    let rows = each_cut(alloc, manner, &column_delimiters, rows.as_slice())?;
     padded(alloc, rows.as_slice(), pad)
 }
 
 /// The pieces of each of some rows.
-fn each_cut(
+fn each_cut<'a>(
     alloc: Global,
     manner: Manner,
-    delimiters: &[Text],
-    rows: &[Text],
-) -> Result<Vec<Vec<Text>>, Memory>
-    requires { IsTrue (none_empty delimiters.now) }
-    ensures { IfOk result (λ cut. map (λ row. row.items) cut.items ≡ map (kept_pieces manner.ignore_empty manner.blind delimiters.now) rows.now) }
+    delimiters: &Delimiters<'_>,
+    rows: &[&'a str],
+) -> Result<Vec<Vec<&'a str>>, Memory>
+    ensures { IfOk result (λ cut. map (λ row. map (λ piece. piece.now) row.items) cut.items ≡ map (kept_pieces manner.ignore_empty manner.blind delimiters.now.texts.now) (map (λ row. row.now) rows.now)) }
 {
     let mut cut = Vec::new(alloc);
     for (index, row) in rows.iter().enumerate() {
-        let pieces = kept_pieces(alloc, manner, delimiters, row.as_str())?;
+        let pieces = kept_pieces(alloc, manner, delimiters, row)?;
         cut.push(pieces)?;
     }
     Ok(cut)
 }
 
-fn longest(rows: &[Vec<Text>]) -> usize
-    ensures { result ≡ longest (map (λ row. row.items) rows.now) }
+fn longest(rows: &[Vec<&str>]) -> usize
+    ensures { result ≡ longest (map (λ row. map (λ piece. piece.now) row.items) rows.now) }
 {
     let mut most = 0;
     for row in rows {
@@ -103,8 +105,8 @@ fn longest(rows: &[Vec<Text>]) -> usize
     most
 }
 
-fn padded(alloc: Global, rows: &[Vec<Text>], pad: &ArrayNode) -> Result<Option<Grid>, Memory>
-    ensures { IfOk result (λ grid. grid ≡ padded pad.now (map (λ row. row.items) rows.now)) }
+fn padded(alloc: Global, rows: &[Vec<&str>], pad: &ArrayNode) -> Result<Option<Grid>, Memory>
+    ensures { IfOk result (λ grid. grid ≡ padded pad.now (map (λ row. map (λ piece. piece.now) row.items) rows.now)) }
 {
     let columns = longest(rows);
     if columns == 0 {

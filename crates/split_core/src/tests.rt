@@ -6,7 +6,7 @@ use value_core::{ArrayNode, Error, Memory, Text};
 
 /// A text, the delimiters of columns and of rows, whether empty pieces are ignored and case is, and the rows: elements stand
 /// between bars and rows between slashes; a pad is `#`.
-static SPLITS: [(&str, &[&str], &[&str], bool, bool, &str); 17] = [
+static SPLITS: [(&str, &[&str], &[&str], bool, bool, &str); 25] = [
     ("a,b;c", &[","], &[";"], false, false, "a|b/c|#"),
     ("aXéxc", &["x"], &[], false, true, "a|é|c"),
     ("aXéxc", &["x"], &[], false, false, "aXé|c"),
@@ -24,6 +24,14 @@ static SPLITS: [(&str, &[&str], &[&str], bool, bool, &str); 17] = [
     ("a€b€€", &["€"], &[], false, false, "a|b||"),
     ("Ab aB", &["ab"], &[], false, true, "| |"),
     ("表一表二", &["表"], &[], true, false, "一|二"),
+    ("a,b;c", &[], &[], false, false, "a,b;c"),
+    ("", &[], &[], false, true, ""),
+    ("", &[], &[], true, false, "none"),
+    ("aXbxc", &["X"], &[], false, true, "a|b|c"),
+    ("aXbxc", &["X"], &[], false, false, "a|bxc"),
+    ("1ORd2orD3", &[], &["Ord"], false, true, "1/2/3"),
+    ("aéèbÉc", &["é"], &[], false, true, "a|èbÉc"),
+    ("a€b¢c", &["€"], &["¢", "x"], true, false, "a|b/c|#"),
 ];
 
 #[test]
