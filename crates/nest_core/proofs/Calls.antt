@@ -1,11 +1,9 @@
 -- What a call of a nest's kinds comes to over arrays: its checks behind those of its arrays, and the array that they ask for.
 --   after-one, after-two   checks in another grouping
---   Counts, between, by-one, by-none   how many arguments there are
 --   answer, asks  what a kind comes to, by what it asks for
 --   seen, seen-unless   what is seen of a nest, or of an error
 --   sequence-is   SEQUENCE
-use Rattle.std.proofs.Common.{◌≡◌, ℕ, suc, ℤ, ◌+◌, ◌≤◌, Bool, true, false, nat_le, if◌then◌else◌, List, [], ◌∷◌, ◌++◌, length, map, Option, Some, None, Result, Ok, Err, unsigned_abs, refl, sym, ap, ◌∙◌, arith}
-use Rattle.std.proofs.lemmas.Bool.{and_parts, leb-true}
+use Rattle.std.proofs.Common.{◌≡◌, ℕ, suc, ℤ, ◌+◌, ◌≤◌, Bool, true, false, if◌then◌else◌, List, [], ◌∷◌, ◌++◌, length, map, Option, Some, None, Result, Ok, Err, unsigned_abs, refl, sym, ap, ◌∙◌, arith}
 use Rattle.call_core.specs.declared.function.Function.{Function}
 use Rattle.call_core.specs.declared.function.Function.TheVariants as kind
 use Rattle.value_core.specs.declared.array.ArrayNode.{ArrayNode}
@@ -34,7 +32,7 @@ use Rattle.array_functions.specs.Progression.{count_of, sequence_call, unless_la
 use Rattle.array_functions.specs.Sizes.{expand_call, wrap_call}
 use Rattle.array_functions.specs.Stacks.{stack_call}
 use Rattle.own_functions.specs.Own.{call_result, own_call}
-use Rattle.nest_core.specs.Asked.{arguments_refused, asked, asked_of, choice_asked, drop_asked, expand_asked, is_between, of_counts, sequence_asked, take_asked, wrap_asked, wrapping}
+use Rattle.nest_core.specs.Asked.{arguments_refused, asked, asked_of, choice_asked, drop_asked, expand_asked, of_counts, sequence_asked, take_asked, wrap_asked, wrapping}
 use Rattle.nest_core.specs.Built.{array_found}
 use Rattle.nest_core.specs.Plain.{arrays_of, is_sequence}
 use Rattle.nest_core.specs.Rows.{rows_in}
@@ -44,6 +42,7 @@ use Rattle.nest_core.specs.declared.asked.Wrapping.{Wrapping}
 use Rattle.nest_core.specs.declared.nest.Nest.{Nest}
 use Rattle.nest_core.specs.declared.nest.Nest.TheVariants.{Sequence}
 use Rattle.nest_core.specs.declared.plain_nest.PlainNest.{PlainNest}
+use Rattle.nest_core.proofs.Counts.{Counts, between, by-none, by-one, enough}
 use Rattle.nest_core.proofs.Nests.{shown-sequence}
 
 -- ---- checks
@@ -57,27 +56,6 @@ after-two : {X Y Z W : Type 0} (r : Result X Error) (s : Result Y Error) (f : X 
 after-two (Ok x) (Ok y) f g = refl
 after-two (Ok x) (Err e) f g = refl
 after-two (Err e) s f g = refl
-
--- ---- how many arguments
-
-abbrev Counts : ℕ → ℕ → ℕ → Type 0
-Counts least most count = (least ≤ count) × (count ≤ most)
-
-passed : (b : Bool) → (if b then None else Some ERROR) ≡ None → b ≡ true
-passed true h = refl
-passed false h = cc
-
-between : (least most count : ℕ) → (if is_between least most count then None else Some ERROR) ≡ None → Counts least most count
-between least most count h = let p = and_parts _ _ (passed (is_between least most count) h) in (leb-true _ _ p.0, leb-true _ _ p.1)
-
-by-one : (P : List PlainNest → Type 0) → ((part : PlainNest) → P (part ∷ [])) → (parts : List PlainNest) → length parts ≡ 1 → P parts
-by-one P one [] h = absurd (omega (arith, h))
-by-one P one (part ∷ []) h = one part
-by-one P one (part ∷ next ∷ parts) h = absurd (omega (arith, h))
-
-by-none : (P : List Found → Type 0) → P [] → (args : List Found) → length args ≤ 0 → P args
-by-none P none [] h = none
-by-none P none (a ∷ args) h = absurd (omega (arith, h))
 
 -- ---- one array, then other arguments
 
@@ -177,8 +155,8 @@ module _ (book : Contents) (limit : ℕ) (cell : CellReferenceIndex) where
   asks kind.Transpose parts args h e s =
       let c = between 1 1 (length parts + length args) h in
       by-one (λ ps. Asks kind.Transpose ps args) (λ p. by-none (Asks kind.Transpose (p ∷ [])) refl args (omega (arith, c.1, e))) parts e
-  asks kind.Hstack parts args h e s = asks-stack move.Hstack parts args (leb-true _ _ (passed (nat_le 1 (length parts + length args)) h)) e
-  asks kind.Vstack parts args h e s = asks-stack move.Vstack parts args (leb-true _ _ (passed (nat_le 1 (length parts + length args)) h)) e
+  asks kind.Hstack parts args h e s = asks-stack move.Hstack parts args (enough 1 (length parts + length args) h) e
+  asks kind.Vstack parts args h e s = asks-stack move.Vstack parts args (enough 1 (length parts + length args) h) e
   asks other parts args h e s = cc
 
   -- ---- what is seen of a nest

@@ -5,5 +5,6 @@ pub mod Elements
 pub mod Wholes
 pub mod Sequences
 pub mod Constants
+pub mod Counts
 pub mod Calls
 pub mod Builts

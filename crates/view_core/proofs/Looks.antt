@@ -3,7 +3,7 @@
 --   there     a call that isn't refused has its arrays among its arguments
 --   looks     what its array arguments are as arrays, and nothing else of them; the first that is an error is its answer
 use Rattle.std.proofs.Common.{◌≡◌, ℕ, zero, suc, ◌+◌, ◌≤◌, Bool, true, false, nat_le, if◌then◌else◌, List, [], ◌∷◌, ◌++◌, length, map, Option, Some, None, Result, Ok, Err, refl, sym, ap, ◌∙◌, arith, append-nil}
-use Rattle.std.proofs.lemmas.Bool.{and_parts, le-leb, leb-true}
+use Rattle.std.proofs.lemmas.Bool.{le-leb}
 use Rattle.call_core.specs.declared.function.Function.{Function}
 use Rattle.call_core.specs.declared.function.Function.TheVariants as kind
 use Rattle.value_core.specs.declared.array.ArrayNode.{ArrayNode}
@@ -26,21 +26,9 @@ use Rattle.array_functions.specs.Stacks.{stack_call}
 use Rattle.own_functions.specs.Own.{own_call}
 use Rattle.nest_core.specs.Asked.{arguments_refused, is_between}
 use Rattle.nest_core.specs.Plain.{arrays_of, is_nest_kind}
+use Rattle.nest_core.proofs.Counts.{Counts, between, by-none, by-one, enough}
 
 -- ---- how many arguments
-
-abbrev Counts : ℕ → ℕ → ℕ → Type 0
-Counts least most count = (least ≤ count) × (count ≤ most)
-
-passed : (b : Bool) → (if b then None else Some ERROR) ≡ None → b ≡ true
-passed true h = refl
-passed false h = cc
-
-between : (least most count : ℕ) → (if is_between least most count then None else Some ERROR) ≡ None → Counts least most count
-between least most count h = let p = and_parts _ _ (passed (is_between least most count) h) in (leb-true _ _ p.0, leb-true _ _ p.1)
-
-enough : (least count : ℕ) → (if nat_le least count then None else Some ERROR) ≡ None → least ≤ count
-enough least count h = leb-true _ _ (passed (nat_le least count) h)
 
 pub there : (k : Function) (count : ℕ) → arguments_refused k count ≡ None → arrays_of k count ≤ count
 there kind.Sequence count h = omega arith
@@ -68,15 +56,6 @@ one-line (Ok x) block g h e = e x
 one-line (Err e) block g h _ = refl
 
 -- ---- lists by their lengths
-
-by-one : {X : Type 0} (P : List X → Type 0) → ((x : X) → P (x ∷ [])) → (xs : List X) → length xs ≡ 1 → P xs
-by-one P one [] h = absurd (omega (arith, h))
-by-one P one (x ∷ []) h = one x
-by-one P one (x ∷ y ∷ more) h = absurd (omega (arith, h))
-
-by-none : {X : Type 0} (P : List X → Type 0) → P [] → (xs : List X) → length xs ≤ 0 → P xs
-by-none P none [] h = none
-by-none P none (x ∷ xs) h = absurd (omega (arith, h))
 
 by-two : {X : Type 0} (P : List X → Type 0) → ((x : X) → P (x ∷ [])) → ((x y : X) → P (x ∷ y ∷ [])) → (xs : List X) → Counts 2 3 (suc (length xs)) → P xs
 by-two P one two [] h = absurd (omega (arith, h.0))

@@ -29,12 +29,9 @@ fn book(alloc: Global) -> Result<MemoryBook, Memory> {
     Ok(book)
 }
 
-/// The range from A1 to a cell.
-fn area(row: i32, column: i32) -> Node {
-    range(
-        Corner::new(true, true, 1, 1),
-        Corner::new(true, true, row, column),
-    )
+/// `A1:A2`.
+fn area() -> Node {
+    range(Corner::new(true, true, 1, 1), Corner::new(true, true, 2, 1))
 }
 
 /// `{7}`.
@@ -51,7 +48,7 @@ fn seven(alloc: Global) -> Result<Node, Memory> {
 /// `HSTACK(A1:A2,{7})`.
 fn beside(alloc: Global) -> Result<Node, Memory> {
     let mut args = Nodes::new(alloc);
-    args.add(area(2, 1))?;
+    args.add(area())?;
     args.add(seven(alloc)?)?;
     Ok(Node::call(Function::Hstack, args))
 }
@@ -66,7 +63,7 @@ fn plain_nests_are_evaluated(rt: HostRuntime) -> Result<(), Fail> {
         limit: 1000000,
     };
     let mut steps = Steps::new(Plain);
-    let made = evaluator.evaluate_node_in_context(alloc, &area(2, 1), CELL, &mut steps)?;
+    let made = evaluator.evaluate_node_in_context(alloc, &area(), CELL, &mut steps)?;
     assert!(rt; matches!(made, CalcResult::Range { .. }));
     let node = beside(alloc)?;
     let made = evaluator.evaluate_node_with_reference(alloc, &node, CELL, &mut steps)?;
