@@ -17,7 +17,7 @@ from pathlib import Path
 PARTS = {
     "values": "serde_json::de::read_members",
     "nodes": "formula_json::node::read_node",
-    "imports": "intersect::import::import_of",
+    "imports": "import_core::import::import_of",
     "shapes": "shape_core::analysis::run_static_analysis_on_node",
     "evaluation": "eval_core::evaluator::Evaluator::formula_value",
     "writing": "print_core::answer::answer_line",

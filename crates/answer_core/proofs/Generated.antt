@@ -6,12 +6,12 @@ use Rattle.std.proofs.Common.{◌≡◌, ℕ, ◌+◌, ◌*◌, ◌<◌, ◌≤�
 use Rattle.tree_core.specs.Count.{size_of, size_of_all}
 use Rattle.tree_core.specs.Tree.{Tree, tree, Trees, none, more}
 use Rattle.kind_table.specs.CrateTable.{kinds}
-use Rattle.intersect.specs.Rule.{Rule}
-use Rattle.intersect.specs.Dropped.{Dropped}
-use Rattle.intersect.specs.Imported.{Imported}
-use Rattle.intersect.proofs.Exists.{import_is_a_function}
-use Rattle.intersect.proofs.Sizes.{size_since}
-use Rattle.intersect.proofs.Trimmed.{AllTrimmed, Trimmed, sub-length, trims_of}
+use Rattle.import_core.specs.Rule.{Rule}
+use Rattle.import_core.specs.Dropped.{Dropped}
+use Rattle.import_core.specs.Imported.{Imported}
+use Rattle.import_core.proofs.Exists.{import_is_a_function}
+use Rattle.import_core.proofs.Sizes.{size_since}
+use Rattle.import_core.proofs.Trimmed.{AllTrimmed, Trimmed, sub-length, trims_of}
 use Rattle.validity_core.specs.declared.place.Place.{Place}
 use Rattle.request_core.specs.Request.{Asked}
 use Rattle.generator_core.specs.Formula.{total}

@@ -5,10 +5,10 @@
 use Rattle.std.proofs.Common.{◌≡◌, ℕ, ◌+◌, ◌*◌, ◌≤◌, Bool, refl, sym, ap, ap₂, ◌∙◌, arith}
 use Rattle.tree_core.specs.Count.{ats_of, calls_here, calls_of, calls_of_all}
 use Rattle.tree_core.specs.Tree.{Tree, tree, Trees, none, more, skeleton, skeletons}
-use Rattle.intersect.specs.Rule.{Rule}
-use Rattle.intersect.specs.Imported.{Imported}
-use Rattle.intersect.specs.ImportOf.{import_of}
-use Rattle.intersect.proofs.Exists.{import_is_a_function}
+use Rattle.import_core.specs.Rule.{Rule}
+use Rattle.import_core.specs.Imported.{Imported}
+use Rattle.import_core.specs.ImportOf.{import_of}
+use Rattle.import_core.proofs.Exists.{import_is_a_function}
 use Rattle.answer_core.specs.Answers.{questions}
 use Rattle.answer_core.specs.Parts.{questions_for}
 

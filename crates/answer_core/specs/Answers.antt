@@ -13,11 +13,11 @@ use Rattle.tree_core.specs.Count.{ats_of, calls_of}
 use Rattle.tree_core.specs.Formula.{tree_of}
 use Rattle.tree_core.specs.Tree.{Tree}
 use Rattle.shape_core.specs.Shape.{shape}
-use Rattle.intersect.specs.declared.rule.ImportRule.{ImportRule}
-use Rattle.intersect.specs.ImportRule.{import_rule}
-use Rattle.intersect.specs.ImportOf.{import_of}
-use Rattle.intersect.specs.Imported.{Imported}
-use Rattle.intersect.specs.Exported.{Exported}
+use Rattle.import_core.specs.declared.rule.ImportRule.{ImportRule}
+use Rattle.import_core.specs.ImportRule.{import_rule}
+use Rattle.import_core.specs.ImportOf.{import_of}
+use Rattle.import_core.specs.Imported.{Imported}
+use Rattle.import_core.specs.Exported.{Exported}
 use Rattle.eval_core.specs.Meaning.{mean}
 use Rattle.eval_core.specs.Setting.{Setting}
 use Rattle.units_core.specs.Unit as units

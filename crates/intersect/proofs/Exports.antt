@@ -9,16 +9,17 @@ use Rattle.std.proofs.lemmas.Bool.{cases_lt}
 use Rattle.kind_table.specs.Table.{Table}
 use Rattle.tree_core.specs.Count.{ats_of, ats_of_all, calls_here, calls_of, calls_of_all, size_of, size_of_all}
 use Rattle.tree_core.specs.Tree.{Tree, tree, Trees, none, more, skeleton, skeletons}
-use Rattle.intersect.specs.declared.rule.ImportRule.{ImportRule}
-use Rattle.intersect.specs.Dropped.{Dropped}
+use Rattle.import_core.specs.declared.rule.ImportRule.{ImportRule}
+use Rattle.import_core.specs.Dropped.{Dropped}
 use Rattle.intersect.specs.Stripped.{without_automatic}
 use Rattle.intersect.specs.Drops.{drops}
-use Rattle.intersect.specs.Export.{ComesBack, IsOnTheWay, NoneBack, IsKept, IsDropped}
-use Rattle.intersect.specs.Exported.{Exported}
-use Rattle.intersect.specs.ImportRule.{import_rule}
+use Rattle.import_core.specs.ComesBack.{ComesBack}
+use Rattle.intersect.specs.Export.{IsOnTheWay, NoneBack, IsKept, IsDropped}
+use Rattle.import_core.specs.Exported.{Exported}
+use Rattle.import_core.specs.ImportRule.{import_rule}
 use Rattle.intersect.proofs.Fixed.{one_drop, fixed_fails}
 use Rattle.intersect.proofs.OneDrop.{is_drop, drops_count}
-use Rattle.intersect.proofs.Trimmed.{dropped-itself, dropped-more, fewer, trims_of}
+use Rattle.import_core.proofs.Trimmed.{dropped-itself, dropped-more, fewer, trims_of}
 use Rattle.intersect.proofs.Strips.{stripped-dropped}
 
 within : {A : Type 0} (xs : List A) (i : ℕ) (x : A) → slice_get xs i ≡ Some x → i < length xs

@@ -12,17 +12,17 @@ use Rattle.tree_core.specs.Label.{Label, leaf, passing, spill, closed, call}
 use Rattle.tree_core.specs.Tree.{Run, Tree, tree, Trees, none, more, label_of, children_of}
 use Rattle.tree_core.specs.Place.{Place, at, child, run_at}
 use Rattle.kind_table.specs.Table.{Table}
-use Rattle.intersect.specs.declared.rule.ImportRule.{ImportRule}
-use Rattle.intersect.specs.Rule.{range_like_at}
-use Rattle.intersect.specs.After.{may_be_range_like}
-use Rattle.intersect.specs.Imported.{merged_run}
-use Rattle.intersect.specs.Dropped.{IsSubsequence, Dropped, OneDropped}
+use Rattle.import_core.specs.declared.rule.ImportRule.{ImportRule}
+use Rattle.import_core.specs.Rule.{range_like_at}
+use Rattle.import_core.specs.After.{may_be_range_like}
+use Rattle.import_core.specs.Imported.{merged_run}
+use Rattle.import_core.specs.Dropped.{IsSubsequence, Dropped, OneDropped}
 use Rattle.intersect.specs.Drops.{run_drops, drops, all_drops}
-use Rattle.intersect.specs.ImportOf.{opens, reached, import_of}
-use Rattle.intersect.specs.ImportRule.{import_rule, is_closed}
-use Rattle.intersect.proofs.Exists.{imports}
-use Rattle.intersect.proofs.Reach.{is_reached, reached_is}
-use Rattle.intersect.proofs.Trimmed.{Trimmed, AllTrimmed, sub-length, sub-same, run_in, trims_of, fewer, all_fewer, trimmed-same, all_trimmed-same}
+use Rattle.import_core.specs.ImportOf.{opens, reached, import_of}
+use Rattle.import_core.specs.ImportRule.{import_rule, is_closed}
+use Rattle.import_core.proofs.Exists.{imports}
+use Rattle.import_core.proofs.Reach.{is_reached, reached_is}
+use Rattle.import_core.proofs.Trimmed.{Trimmed, AllTrimmed, sub-length, sub-same, run_in, trims_of, fewer, all_fewer, trimmed-same, all_trimmed-same}
 use Rattle.intersect.proofs.OneDrop.{one_run}
 use Rattle.intersect.proofs.Withouts.{get-map, get-front, get-behind}
 

@@ -1,17 +1,5 @@
-pub mod Arguments
-pub mod Below
-pub mod Classes
-pub mod Endings
-pub mod Exists
-pub mod Reach
-pub mod Shows
-pub mod Settle
 pub mod Withouts
-pub mod Trimmed
 pub mod OneDrop
 pub mod Fixed
 pub mod Exports
-pub mod Sizes
 pub mod Strips
-pub mod Builds
-pub mod Decides

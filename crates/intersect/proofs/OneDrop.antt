@@ -9,11 +9,11 @@ use Rattle.std.proofs.lemmas.List.{length-map, length-append}
 use Rattle.tree_core.specs.Count.{ats_of, ats_of_all}
 use Rattle.tree_core.specs.Label.{Label}
 use Rattle.tree_core.specs.Tree.{Run, Tree, tree, Trees, none, more}
-use Rattle.intersect.specs.Dropped.{IsSubsequence, OneDropped}
-use Rattle.intersect.specs.After.{may_be_range_like}
+use Rattle.import_core.specs.Dropped.{IsSubsequence, OneDropped}
+use Rattle.import_core.specs.After.{may_be_range_like}
 use Rattle.intersect.specs.Drops.{run_drops, drops, all_drops}
-use Rattle.intersect.specs.ImportRule.{is_closed}
-use Rattle.intersect.proofs.Trimmed.{Trimmed, AllTrimmed, sub-itself, sub-same, drops_of, trimmed-itself, all_trimmed-itself}
+use Rattle.import_core.specs.ImportRule.{is_closed}
+use Rattle.import_core.proofs.Trimmed.{Trimmed, AllTrimmed, sub-itself, sub-same, drops_of, trimmed-itself, all_trimmed-itself}
 use Rattle.intersect.proofs.Withouts.{get-map}
 
 -- ---- where an element of a list comes from

@@ -4,11 +4,11 @@ use Rattle.tree_core.specs.Label.{Leaf, Closed, closed}
 use Rattle.tree_core.specs.Tree.{Run, Tree, tree, Trees, none, more, forest, label_of, under}
 use Rattle.tree_core.specs.Formula.{tree_of, bare_leaf}
 use Rattle.tree_core.specs.declared.node.Node.{Node}
-use Rattle.intersect.specs.After.{may_be_range_like}
-use Rattle.intersect.specs.Dropped.{IsSubsequence, Dropped}
-use Rattle.intersect.specs.ImportRule.{is_closed}
+use Rattle.import_core.specs.After.{may_be_range_like}
+use Rattle.import_core.specs.Dropped.{IsSubsequence, Dropped}
+use Rattle.import_core.specs.ImportRule.{is_closed}
 use Rattle.intersect.specs.Stripped.{kept_flags, without_automatic, all_without_automatic}
-use Rattle.intersect.proofs.Trimmed.{Trimmed, AllTrimmed, all_trimmed-itself, drops_of, sub-behind}
+use Rattle.import_core.proofs.Trimmed.{Trimmed, AllTrimmed, all_trimmed-itself, drops_of, sub-behind}
 
 pub stripped-leaf : (l : Leaf) → without_automatic (bare_leaf l) ≡ bare_leaf l
 stripped-leaf l = refl

@@ -10,8 +10,8 @@ use Rattle.tree_core.specs.Formula.{tree_of, one, two, between, bare_leaf}
 use Rattle.value_core.specs.declared.operator.OpUnary.{OpUnary}
 use Rattle.call_core.specs.declared.function.Function.{Function}
 use Rattle.tree_core.specs.declared.node.Node.{Node}
-use Rattle.intersect.specs.After.{may_be_range_like}
-use Rattle.intersect.specs.ImportRule.{is_closed}
+use Rattle.import_core.specs.After.{may_be_range_like}
+use Rattle.import_core.specs.ImportRule.{is_closed}
 use Rattle.intersect.specs.Drops.{run_drops, drops, all_drops, IsWithout, IsWithoutAll, Over, OverAll}
 use Rattle.intersect.specs.declared.numbered_drop.Trial.{Trial}
 use Rattle.intersect.specs.declared.numbered_drop.Trial.TheVariants.{Formula, Beyond}

@@ -9,8 +9,8 @@
 use Rattle.std.specs.Prelude.{◌≡◌, ℕ, ◌+◌, Bool, List, [], ◌∷◌, ◌++◌, length, map, if◌then◌else◌, slice_get, Some}
 use Rattle.tree_core.specs.Tree.{Run, Tree, tree, Trees, none, more, forest}
 use Rattle.tree_core.specs.Formula.{tree_of}
-use Rattle.intersect.specs.After.{may_be_range_like}
-use Rattle.intersect.specs.ImportRule.{is_closed}
+use Rattle.import_core.specs.After.{may_be_range_like}
+use Rattle.import_core.specs.ImportRule.{is_closed}
 use Rattle.intersect.specs.declared.numbered_drop.Trial.{Trial}
 use Rattle.intersect.specs.declared.numbered_drop.Trial.TheVariants.{Formula, Beyond}
 use Rattle.intersect.specs.declared.numbered_drop.TrialAll.{TrialAll}

@@ -1,5 +1,4 @@
 -- On the way to an export.
---   ComesBack   the import of a formula is the imported one, flags aside
 --   IsOnTheWay  `@`s were dropped, and the import of what is left comes back
 --   NoneBack    of the first so many formulas with one `@` fewer, none comes back
 --   IsTried     what came of one drop: it comes back; it is kept; there is none of that number
@@ -7,20 +6,15 @@
 use Rattle.std.specs.Prelude.{◌≡◌, ℕ, ◌<◌, ◌≤◌, Bool, true, false, length, slice_get, Some}
 use Rattle.kind_table.specs.Table.{Table}
 use Rattle.tree_core.specs.Count.{ats_of}
-use Rattle.tree_core.specs.Flags.{Alike}
 use Rattle.tree_core.specs.Formula.{tree_of}
 use Rattle.tree_core.specs.Tree.{Tree}
-use Rattle.intersect.specs.declared.rule.ImportRule.{ImportRule}
+use Rattle.import_core.specs.declared.rule.ImportRule.{ImportRule}
 use Rattle.intersect.specs.declared.export.Tried.{Tried}
 use Rattle.intersect.specs.declared.export.Tried.TheVariants as tried
 use Rattle.intersect.specs.declared.export.Swept.{Swept}
-use Rattle.intersect.specs.Dropped.{Dropped}
+use Rattle.import_core.specs.Dropped.{Dropped}
 use Rattle.intersect.specs.Drops.{drops}
-use Rattle.intersect.specs.ImportOf.{import_of}
-use Rattle.intersect.specs.ImportRule.{import_rule}
-
-abbrev pub ComesBack : ImportRule → Table → Bool → (import formula : Tree) → Type 0
-ComesBack which table add import formula = Alike (import_of (import_rule which table) add formula) import
+use Rattle.import_core.specs.ComesBack.{ComesBack}
 
 pub record IsOnTheWay (which : ImportRule) (table : Table) (add : Bool) (import export : Tree) : Type 0 where
   pub dropped : Dropped export import

@@ -1,16 +1,4 @@
-pub mod Rule
-pub mod Reached
-pub mod Imported
-pub mod ImportOf
-pub mod Arguments
-pub mod RangeText
-pub mod Ending
-pub mod After
-pub mod ImportRule
-pub mod Decisions
-pub mod Settled
-pub mod Dropped
-pub mod Exported
 pub mod Drops
 pub mod Stripped
 pub mod Export
+pub mod ExportsComeBack

@@ -4,8 +4,8 @@
 --   without_automatic, all_without_automatic  the formula, and each of some formulas
 use Rattle.std.specs.Prelude.{Bool, ◌&&◌, [], ◌∷◌, if◌then◌else◌}
 use Rattle.tree_core.specs.Tree.{Run, Tree, tree, Trees, none, more}
-use Rattle.intersect.specs.After.{may_be_range_like}
-use Rattle.intersect.specs.ImportRule.{is_closed}
+use Rattle.import_core.specs.After.{may_be_range_like}
+use Rattle.import_core.specs.ImportRule.{is_closed}
 
 abbrev pub kept_flags : Bool → Run → Run
 kept_flags may [] = []

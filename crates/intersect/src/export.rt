@@ -1,16 +1,16 @@
 ghost use Rattle.std.specs.Prelude.{◌≡◌, ◌+◌, ◌*◌, ◌<◌, ◌≤◌, ◌^◌, ◌↔◌, IfOk, OnOk, OnErr, IsTrue, length};
 ghost use Rattle.tree_core.specs.Count.{ats_of, calls_of, size_of};
 ghost use Rattle.tree_core.specs.Formula.{tree_of};
-ghost use Rattle.intersect.specs.declared.rule.ImportRule.TheVariants.{AsCrate};
+ghost use Rattle.import_core.specs.declared.rule.ImportRule.TheVariants.{AsCrate};
 ghost use Rattle.intersect.specs.Drops.{drops};
-ghost use Rattle.intersect.specs.Export.{ComesBack, IsOnTheWay, IsSwept, IsTried};
-ghost use Rattle.intersect.specs.Exported.{Exported};
-ghost use Rattle.intersect.specs.ImportRule.{import_rule};
+ghost use Rattle.import_core.specs.ComesBack.{ComesBack};
+ghost use Rattle.intersect.specs.Export.{IsOnTheWay, IsSwept, IsTried};
+ghost use Rattle.import_core.specs.Exported.{Exported};
+ghost use Rattle.import_core.specs.ImportRule.{import_rule};
 
-use crate::import::import_of;
 use crate::numbered_drop::{Trial, drop_number};
-use crate::rule::ImportRule;
 use crate::stripped::without_automatic;
+use import_core::{ImportRule, import_of};
 use kind_table::Asks;
 use std::alloc::Global;
 use tree_core::{Memory, Node, Plain, Steps};

@@ -4,7 +4,7 @@ ghost use Rattle.tree_core.specs.Label.{passing, unary, spill, call};
 ghost use Rattle.tree_core.specs.Tree.{tree, forest, under};
 ghost use Rattle.intersect.specs.Drops.{all_drops, drops, IsWithout, IsWithoutAll, Over, OverAll};
 
-use crate::context::may_be_range_like;
+use import_core::may_be_range_like;
 use std::alloc::Global;
 use tree_core::{Function, Memory, Node, Nodes, OpUnary, Operator, View, clone_nodes};
 

@@ -2,7 +2,7 @@ ghost use Rattle.std.specs.Prelude.{◌≡◌, IfOk, map};
 ghost use Rattle.tree_core.specs.Formula.{tree_of};
 ghost use Rattle.intersect.specs.Stripped.{without_automatic};
 
-use crate::context::may_be_range_like;
+use import_core::may_be_range_like;
 use std::alloc::Global;
 use tree_core::{Memory, Node, Nodes, View};
 

@@ -13,8 +13,8 @@ use Rattle.std.specs.Str.{bytes_eq}
 use Rattle.serde_json.specs.Data.{Data}
 use Rattle.serde_json.specs.Find.{as_number, as_str, as_u64, get}
 use Rattle.value_json.specs.Fields.{◌>>=◌}
-use Rattle.intersect.specs.declared.rule.ImportRule.{ImportRule}
-use Rattle.intersect.specs.declared.rule.ImportRule.TheVariants.{AsCrate, EveryScalar}
+use Rattle.import_core.specs.declared.rule.ImportRule.{ImportRule}
+use Rattle.import_core.specs.declared.rule.ImportRule.TheVariants.{AsCrate, EveryScalar}
 use Rattle.option_json.specs.declared.options.Options.{Options}
 use Rattle.option_json.specs.declared.rule.TheConstants.{RULES}
 use Rattle.option_json.specs.declared.version.Version.{Version}

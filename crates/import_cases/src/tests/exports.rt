@@ -1,7 +1,7 @@
 ghost use Rattle.std.specs.Prelude.{◌≤◌, IfOk};
 ghost use Rattle.tree_core.specs.Count.{size_of};
 ghost use Rattle.tree_core.specs.Formula.{tree_of};
-ghost use Rattle.intersect.specs.Export.{ComesBack};
+ghost use Rattle.import_core.specs.ComesBack.{ComesBack};
 
 use super::is;
 use formula_words::formula;

@@ -1,0 +1,12 @@
+pub mod Arguments
+pub mod Below
+pub mod Classes
+pub mod Endings
+pub mod Exists
+pub mod Reach
+pub mod Shows
+pub mod Settle
+pub mod Trimmed
+pub mod Sizes
+pub mod Builds
+pub mod Decides

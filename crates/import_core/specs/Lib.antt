@@ -1,0 +1,14 @@
+pub mod Rule
+pub mod Reached
+pub mod Imported
+pub mod ImportOf
+pub mod Arguments
+pub mod RangeText
+pub mod Ending
+pub mod After
+pub mod ImportRule
+pub mod ComesBack
+pub mod Decisions
+pub mod Settled
+pub mod Dropped
+pub mod Exported
