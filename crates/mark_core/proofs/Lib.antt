@@ -1,0 +1,4 @@
+mod Counts
+mod Elements
+mod Probes
+mod Ways

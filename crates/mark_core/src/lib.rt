@@ -1,0 +1,18 @@
+//! Marks: what export knows of an imported formula while it drops its `@`s, and the trials of these drops.
+//!
+//! - `mark`: what is known of a node and of its parts. `shape`: the shape of a bare node, by those of its parts.
+//! - `way`: whether import reaches an `@`. `probe`: whether it can go. `commit`: it goes.
+//! - `sweep`: one trial after the other, until none of the listed `@`s can go.
+//!
+//! Nothing here takes memory.
+#![tactic(auto)]
+
+pub use mark::{Form, Known, Mark};
+
+mod commit;
+mod lists;
+mod mark;
+mod probe;
+mod shape;
+mod trial;
+mod way;
