@@ -2,7 +2,7 @@
 --   calls-are, ats-are  at a node, and in the parts
 --   calls-part          the calls of one part and of the node are no more than all
 --   sum-set             what a sum comes to once one part is another
-use Rattle.std.proofs.Common.{◌≡◌, ℕ, zero, suc, ◌+◌, ◌≤◌, List, [], ◌∷◌, map, Some, slice_get, refl, ap, arith}
+use Rattle.std.proofs.Common.{◌≡◌, ℕ, zero, suc, ◌+◌, ◌≤◌, List, [], ◌∷◌, map, Some, slice_get, ap, arith}
 use Rattle.std.proofs.lemmas.List.Sums.{sum_by-cons}
 use Rattle.std.specs.Prelude.{sum, slice_set}
 use Rattle.mark_core.specs.declared.mark.Mark.{Mark, fold_out-Mark}

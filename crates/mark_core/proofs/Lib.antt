@@ -1,4 +1,6 @@
+mod Commits
 mod Counts
 mod Elements
 mod Probes
+mod Sweeps
 mod Ways

@@ -4,7 +4,7 @@
 --   probe-refused  a drop that fits in no context of the part fits in none of the node
 --   probe-part     and else what it comes to
 --   part-kept      where a part is left as it was, so is the formula
-use Rattle.std.proofs.Common.{◌≡◌, ℕ, zero, suc, List, [], ◌∷◌, length, Bool, true, false, ◌&&◌, ◌||◌, if◌then◌else◌, Option, Some, None, slice_get, refl, sym, ap, ap₂, ◌∙◌}
+use Rattle.std.proofs.Common.{◌≡◌, ℕ, zero, suc, List, [], ◌∷◌, length, Bool, true, false, ◌&&◌, ◌||◌, if◌then◌else◌, Some, None, slice_get, refl, ap, ap₂, ◌∙◌}
 use Rattle.std.specs.Prelude.{slice_set}
 use Rattle.std.specs.Option.{option_map_or}
 use Rattle.kind_table.specs.Table.{Table}
@@ -90,9 +90,9 @@ module _ (which : ImportRule) (table : Table) where
   probe-refused mark part i place h e =
       let never = none_fits (seen (known_of (commit_of table part place))) (fits_of which table false part place) (fits_of which table true part place) e in
       let shut = λ (wanted : Bool). and_none
-          (allows (wants_at which table wanted mark i (known_of part).shape) (wants_at which table wanted mark i (known_of (commit_of table part place)).shape) (known_of part).settles)
-          (in_context (wants_at which table wanted mark i (known_of (commit_of table part place)).shape) (fits_at which table part place))
-          (never (wants_at which table wanted mark i (known_of (commit_of table part place)).shape)) in
+      (allows (wants_at which table wanted mark i (known_of part).shape) (wants_at which table wanted mark i (known_of (commit_of table part place)).shape) (known_of part).settles)
+      (in_context (wants_at which table wanted mark i (known_of (commit_of table part place)).shape) (fits_at which table part place))
+      (never (wants_at which table wanted mark i (known_of (commit_of table part place)).shape)) in
       probe-over mark part i place h
       ∙ ap₂ (λ low high. some_probe
       (record { shape = shape_with table (known_of mark) i (seen (known_of part)) (seen (known_of (commit_of table part place))); shows = face (known_of mark) })

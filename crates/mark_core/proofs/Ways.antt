@@ -1,6 +1,6 @@
 -- The way on through a node.
 --   way-shut  there is none where import doesn't enter the node
-use Rattle.std.proofs.Common.{◌≡◌, ℕ, List, [], ◌∷◌, Bool, true, false, not, ◌&&◌, ◌||◌, refl, sym, ap, ◌∙◌, slice_get}
+use Rattle.std.proofs.Common.{◌≡◌, ℕ, ◌∷◌, Bool, false, ◌&&◌, ◌||◌, sym, ap, ◌∙◌, slice_get}
 use Rattle.std.specs.Option.{option_map_or}
 use Rattle.kind_table.specs.Table.{Table}
 use Rattle.tree_core.specs.Place.{Place}

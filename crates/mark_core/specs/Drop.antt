@@ -10,7 +10,7 @@
 --   fits_of     whether it comes back then: each context on the way may change as it does, and at the place one value is wanted of a
 --               range-like node
 --   can_drop    whether import reaches an `@` that can go
-use Rattle.std.specs.Prelude.{ℕ, Bool, true, false, not, ◌&&◌, ◌||◌, if◌then◌else◌, List, [], ◌∷◌, length, slice_get, slice_set}
+use Rattle.std.specs.Prelude.{ℕ, Bool, true, false, not, ◌&&◌, ◌||◌, if◌then◌else◌, [], ◌∷◌, length, slice_get, slice_set}
 use Rattle.std.specs.Option.{option_map_or}
 use Rattle.kind_table.specs.declared.static_result.StaticResult.{StaticResult}
 use Rattle.kind_table.specs.Table.{Table}

@@ -1,3 +1,4 @@
 pub mod Mark
 pub mod Drop
 pub mod Probe
+pub mod Sweep

@@ -6,7 +6,7 @@
 --   same_shape, same_shown, same_seen  whether two shapes are the same, what two nodes show, and what is seen of them
 --   calls_in      how many calls there are, `calls_here` of them at one node
 --   ats_in        over how many nodes an `@` stands
-use Rattle.std.specs.Prelude.{ℕ, ◌+◌, Bool, true, false, not, ◌&&◌, if◌then◌else◌, List, map, sum}
+use Rattle.std.specs.Prelude.{ℕ, ◌+◌, Bool, true, false, ◌&&◌, if◌then◌else◌, List, sum}
 use Rattle.std.specs.Ordering.{int_eq}
 use Rattle.kind_table.specs.declared.shown.Shown.{Shown}
 use Rattle.kind_table.specs.declared.shown.Shown.TheVariants as shown
@@ -18,7 +18,7 @@ use Rattle.mark_core.specs.declared.mark.Form.{Form}
 use Rattle.mark_core.specs.declared.mark.Form.TheVariants.{Whole, Passing, Spill, Call}
 use Rattle.mark_core.specs.declared.mark.Known.{Known}
 use Rattle.mark_core.specs.declared.mark.Seen.{Seen}
-use Rattle.mark_core.specs.declared.mark.Mark.{Mark, Mark-F, out-Mark, roll-Mark, fold-Mark}
+use Rattle.mark_core.specs.declared.mark.Mark.{Mark, out-Mark, roll-Mark, fold-Mark}
 
 abbrev pub known_of : Mark → Known
 known_of mark = (out-Mark mark).known

@@ -30,7 +30,8 @@ pub(crate) fn commit<K: Asks<L>, L>(
         Some(part) => {
             let old = part.known.seen();
             commit(part, path, at + 1, kinds, steps);
-            mark.known.notice(index, old, part.known.seen(), kinds, steps);
+            mark.known
+                .notice(index, old, part.known.seen(), kinds, steps);
         }
     }
 }

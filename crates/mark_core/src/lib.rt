@@ -8,11 +8,13 @@
 #![tactic(auto)]
 
 pub use mark::{Form, Known, Mark};
+pub use sweep::drop_what_can;
 
 mod commit;
 mod lists;
 mod mark;
 mod probe;
 mod shape;
+mod sweep;
 mod trial;
 mod way;

@@ -59,7 +59,16 @@ pub(crate) fn probed<K: Asks<L>, L>(
         Some(part) => match probed(part, path, at + 1, rule, kinds, steps) {
             None => None,
             Some(below) => {
-                probe_above(&mut mark.known, count, index, &part.known, below, rule, kinds, steps)
+                probe_above(
+                    &mut mark.known,
+                    count,
+                    index,
+                    &part.known,
+                    below,
+                    rule,
+                    kinds,
+                    steps,
+                )
             }
         },
     }

@@ -1,7 +1,7 @@
-use Rattle.std.proofs.Common.{◌≡◌, ℕ, ◌∷◌, ◌+◌, ◌<◌, ◌≤◌, List, drop, length, get_or, Some, None, slice_get, sym, ap, ◌∙◌, arith}
-use Rattle.mark_core.specs.Mark.{known_of, parts_of, calls_here, calls_in}
+use Rattle.std.proofs.Common.{◌≡◌, ℕ, ◌+◌, ◌≤◌, List, drop, get_or, Some, None, slice_get, sym, ap, ◌∙◌, arith}
+use Rattle.mark_core.specs.Mark.{known_of, parts_of, calls_here}
 use Rattle.mark_core.specs.Drop.{commit_of}
-use Rattle.mark_core.specs.declared.mark.Mark.{out-roll-Mark, roll-out-Mark}
+use Rattle.mark_core.specs.declared.mark.Mark.{roll-out-Mark}
 use Rattle.mark_core.proofs.Counts.{calls-part}
 use Rattle.mark_core.proofs.Elements.{drop-next}
 use Rattle.mark_core.proofs.Probes.{commit-nowhere}

@@ -1,5 +1,5 @@
-use Rattle.std.proofs.Common.{◌≡◌, ℕ, ◌∷◌, ◌+◌, ◌<◌, ◌≤◌, List, drop, length, get_or, Some, slice_get, sym, ap, ◌∙◌, arith, refl}
-use Rattle.mark_core.specs.Mark.{known_of, parts_of, calls_here, calls_in}
+use Rattle.std.proofs.Common.{◌≡◌, ℕ, ◌+◌, ◌≤◌, List, drop, length, get_or, Some, slice_get, sym, ap, ◌∙◌, arith, refl}
+use Rattle.mark_core.specs.Mark.{known_of, parts_of, calls_here}
 use Rattle.mark_core.specs.Probe.{probe_above, probe_of}
 use Rattle.mark_core.specs.declared.mark.Mark.{out-roll-Mark, roll-out-Mark}
 use Rattle.mark_core.proofs.Counts.{calls-part}

@@ -1,4 +1,4 @@
-use Rattle.std.proofs.Common.{◌≡◌, ◌∷◌, ◌+◌, ◌<◌, drop, length, get_or, arith}
+use Rattle.std.proofs.Common.{◌+◌, drop, get_or, arith}
 use Rattle.mark_core.proofs.Elements.{drop-next}
 use Rattle.mark_core.proofs.Ways.{way-shut}
 use Rattle.mark_core.proofs.way.+is_way.Goals as goal
