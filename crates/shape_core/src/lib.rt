@@ -9,7 +9,7 @@
 pub use all_shapes::analyse_all;
 pub use analysis::{call_shape, run_static_analysis_on_node, shapes_of};
 pub use leaf::{leaf_shape, range_shape};
-pub use own::own_shape;
+pub use own::{own_shape, shown_leaf};
 pub use shapes::Shapes;
 
 mod all_shapes;

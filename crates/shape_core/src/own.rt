@@ -48,7 +48,8 @@ fn shown(node: &Node) -> Shown
     }
 }
 
-fn shown_leaf(leaf: Leaf) -> Shown
+/// What a bare node without children shows of itself.
+pub fn shown_leaf(leaf: Leaf) -> Shown
     ensures { result ≡ shown (bare_leaf (leaf_in leaf.entry)) }
 {
     match leaf {

@@ -1,0 +1,5 @@
+pub mod Classes
+pub mod Seen
+pub mod Parts
+pub mod Drops
+pub mod State
