@@ -1,6 +1,6 @@
-mod Commits
-mod Counts
-mod Elements
-mod Probes
-mod Sweeps
-mod Ways
+pub mod Commits
+pub mod Counts
+pub mod Elements
+pub mod Probes
+pub mod Sweeps
+pub mod Ways

@@ -16,5 +16,7 @@ mod mark;
 mod probe;
 mod shape;
 mod sweep;
+#[cfg(test)]
+mod tests;
 mod trial;
 mod way;
