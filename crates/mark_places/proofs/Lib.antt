@@ -1,2 +1,4 @@
+pub mod Counted
+pub mod Covers
 pub mod Lefts
 pub mod Listed
