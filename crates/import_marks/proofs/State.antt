@@ -1,7 +1,7 @@
 -- What the marks say on the way of an export.
 --   Bares, AllBare  a formula with some of its runs left out whole, none of them inside of a node that import doesn't enter
---   IsState    the marks are those of such a formula of the imported one, which comes back
---   begins     at first of the imported formula itself
+--   IsState    the marks are those of such a formula of a base, which comes back
+--   begins     at first of the base itself
 --   goes_on, follows  after a drop that can go, and after drops one after the other
 --   ends       where no drop can go, that formula is an export
 use Rattle.std.proofs.Common.{◌≡◌, ◌↔◌, ℕ, zero, suc, Bool, true, false, ◌&&◌, List, [], ◌∷◌, inl, inr, ◌⊎◌, refl, sym, ap, ◌∙◌, subst}
@@ -17,7 +17,7 @@ use Rattle.import_core.specs.Dropped.{IsSubsequence, Dropped}
 use Rattle.import_core.specs.Exported.{Exported}
 use Rattle.import_core.specs.ImportRule.{import_rule, is_closed}
 use Rattle.import_core.proofs.Settle.{IsMonotone}
-use Rattle.import_core.proofs.Trimmed.{Trimmed, AllTrimmed, sub-itself, trims_of, dropped-itself, dropped-more}
+use Rattle.import_core.proofs.Trimmed.{Trimmed, AllTrimmed, sub-itself, trims_of, dropped-more}
 use Rattle.export_marks.specs.Bared.{bared, bared_in}
 use Rattle.export_marks.specs.Trial.{IsWay, IsWayIn, fits}
 use Rattle.export_marks.proofs.Bares.{bared-dropped}
@@ -64,18 +64,18 @@ module _ (which : ImportRule) (table : Table) where
     all_bare-more (more e es) (more t ts) (more u us) zero place now way h = (bares-more place (now 0) e t u way h.0, h.1)
     all_bare-more (more e es) (more t ts) (more u us) (suc i) place now way h = (h.0, all_bare-more es ts us i place (λ j. now (suc j)) way h.1)
 
-pub record IsState (which : ImportRule) (table : Table) (add : Bool) (import : Tree) (mark : Mark) : Type 0 where
+pub record IsState (which : ImportRule) (table : Table) (add : Bool) (import base : Tree) (mark : Mark) : Type 0 where
   pub export : Tree
   pub is : mark ≡ marks which table export import
-  pub bares : Bares export import
+  pub bares : Bares export base
   pub dropped : Dropped export import
   pub comes_back : ComesBack which table add import export
 
-module _ (which : ImportRule) (table : Table) (monotone : IsMonotone table) (add : Bool) (import : Tree) where
-  pub begins : (mark : Mark) → mark ≡ marks which table import import → ComesBack which table add import import → IsState which table add import mark
-  begins mark is own = record { export = import; is = is; bares = bares-itself import; dropped = dropped-itself import; comes_back = own }
+module _ (which : ImportRule) (table : Table) (monotone : IsMonotone table) (add : Bool) (import base : Tree) where
+  pub begins : (mark : Mark) → mark ≡ marks which table base import → Dropped base import → ComesBack which table add import base → IsState which table add import base mark
+  begins mark is dropped back = record { export = base; is = is; bares = bares-itself base; dropped = dropped; comes_back = back }
 
-  pub goes_on : (mark : Mark) (place : Place) → IsState which table add import mark → can_drop which table add mark place ≡ true → IsState which table add import (commit_of table mark place)
+  pub goes_on : (mark : Mark) (place : Place) → IsState which table add import base mark → can_drop which table add mark place ≡ true → IsState which table add import base (commit_of table mark place)
   goes_on mark place state can =
       let part = trims_of state.export import state.dropped in
       let both = and_parts (way_of which table add mark place) _ can in
@@ -85,16 +85,16 @@ module _ (which : ImportRule) (table : Table) (monotone : IsMonotone table) (add
       record {
         export = bared state.export place;
         is = ap (λ m. commit_of table m place) state.is ∙ commit-is which table place add state.export import part way;
-        bares = bares-more which table place add state.export import import way state.bares;
+        bares = bares-more which table place add state.export import base way state.bares;
         dropped = dropped-more (bared state.export place) state.export import (bared-dropped state.export place) state.dropped;
         comes_back = (trial_by which table monotone add import state.export place way state.comes_back).1 fit;
       }
 
-  pub follows : (places : List Place) (old new : Mark) → Follows which table add old new places → IsState which table add import old → IsState which table add import new
-  follows [] old new h state = subst (IsState which table add import) (sym h) state
+  pub follows : (places : List Place) (old new : Mark) → Follows which table add old new places → IsState which table add import base old → IsState which table add import base new
+  follows [] old new h state = subst (IsState which table add import base) (sym h) state
   follows (place ∷ places) old new h state = follows places (commit_of table old place) new h.1 (goes_on old place state h.0)
 
-  pub ends : (mark : Mark) (state : IsState which table add import mark) → ((place : Place) → ¬ (can_drop which table add mark place ≡ true)) → Exported (import_rule which table) add import state.export
+  pub ends : (mark : Mark) (state : IsState which table add import base mark) → ((place : Place) → ¬ (can_drop which table add mark place ≡ true)) → Exported (import_rule which table) add import state.export
   ends mark state never = exact_by which table monotone add import state.export state.dropped state.comes_back (λ place way.
       let part = trims_of state.export import state.dropped in
       false_from_ne_true _ (λ fit. never place (and_from (way_of which table add mark place) _
