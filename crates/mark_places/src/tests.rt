@@ -82,14 +82,21 @@ fn an_at_may_go_where_one_value_may_be_wanted(rt: HostRuntime) -> Result<(), Fai
 
 #[test]
 fn bare_nodes_lose_their_ats(rt: HostRuntime) -> Result<(), Fail> {
-    let alloc = rt.alloc();
-    let (Ok(given), Ok(wanted)) = (
-        formula(alloc, "A1:A3 ~ A1:A3 @ @ ABS/1 + A1:A3 @ SUM/1 +"),
-        formula(alloc, "A1:A3 ~ A1:A3 ABS/1 + A1:A3 @ SUM/1 +"),
-    ) else {
-        return Err("no formula".into());
-    };
-    let left = left_of(alloc, &given, &sums(alloc, true)?)?;
-    assert!(rt; left == wanted);
+    let given = "A1:A3 ~ A1:A3 @ @ ABS/1 + A1:A3 @ SUM/1 +";
+    let wanted = "A1:A3 ~ A1:A3 ABS/1 + A1:A3 @ SUM/1 +";
+    assert!(rt; leaves(rt.alloc(), given, wanted)?);
     Ok(())
+}
+
+fn leaves(alloc: Global, given: &str, wanted: &str) -> Result<bool, Fail> {
+    let given = formula(alloc, given)?;
+    let mark = sums(alloc, true)?;
+    let left = left_of(alloc, &given, &mark)?;
+    drop(given);
+    drop(mark);
+    let wanted = formula(alloc, wanted)?;
+    let same = left == wanted;
+    drop(left);
+    drop(wanted);
+    Ok(same)
 }
