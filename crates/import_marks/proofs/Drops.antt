@@ -155,7 +155,7 @@ module _ (which : ImportRule) (table : Table) where
 
   -- ---- contexts
 
-  wants-is : (w : Bool) (l : Label) (es xs ts : Trees) (count i : ℕ) (s : StaticResult) → is_closed l ≡ false → count ≡ length (shapes table xs) → slice_get (shapes table xs) i ≡ Some s
+  pub wants-is : (w : Bool) (l : Label) (es xs ts : Trees) (count i : ℕ) (s : StaticResult) → is_closed l ≡ false → count ≡ length (shapes table xs) → slice_get (shapes table xs) i ≡ Some s
       → wants_part which table (form_of l) w count i s ≡ context which table w l xs i
   wants-is w (leaf k) es xs ts count i s entered n h = refl
   wants-is w (passing p) es xs ts count i s entered n h = refl

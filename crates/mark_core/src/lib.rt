@@ -9,6 +9,7 @@
 
 pub use mark::{Form, Known, Mark};
 pub use sweep::drop_what_can;
+pub use way::wants_part;
 
 mod commit;
 mod lists;

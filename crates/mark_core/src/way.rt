@@ -6,7 +6,7 @@ use import_core::{ImportRule, wants_one};
 use kind_table::{Kinds, StaticResult};
 
 /// Whether one value is wanted of a part, by its number from 0, of so many, and by its shape, from whether one is wanted of the node.
-pub(crate) fn wants_part<K: Kinds>(
+pub fn wants_part<K: Kinds>(
     form: Form,
     wanted: bool,
     count: usize,

@@ -2,7 +2,7 @@
 --   put-trimmed, all_put-trimmed  node by node, and so of some formulas
 --   put-dropped   place by place
 --   put-bares     its runs are left out whole, none of them inside of a node that import doesn't enter
-use Rattle.std.proofs.Common.{Bool, true, false, ◌||◌, if◌then◌else◌, [], ◌∷◌, inl, inr, refl, ap}
+use Rattle.std.proofs.Common.{true, false, ◌||◌, if◌then◌else◌, [], inl, refl, ap}
 use Rattle.tree_core.specs.Tree.{Tree, tree, Trees, none, more}
 use Rattle.import_core.specs.Dropped.{Dropped}
 use Rattle.import_core.specs.ImportOf.{is_bare}
