@@ -9,6 +9,12 @@ deep_D.json              SUM over 100 arguments, each ABS nested D deep over A1:
 kept_N_K.json            N nodes, K of them `@`s that can't go: SUM(@A1:A3)
 put_N_K.json             N nodes, over K of which import puts an `@` that export can drop
 tried_N_K.json           as put_N_K, with one `@` that looks as if import had put it and can't go, so that each `@` is tried
+all_kept_K.json          K `@`s that can't go and nothing else: sums of SUM(@A1:A3); all_put_K, sums of A1:A3, over which import
+                         puts one; all_tried_K, so with one that looks put and can't go
+row_NAME_W.json          a call of NAME over W arguments, each under an `@`, of which that of the last one has to stay: @(A1:A3+1)
+row_tried_W.json         CONCATENATE over W arguments as import leaves them, and one that looks put and can't go
+rising_choose_W.json     ABS(CHOOSE(1,@IF(A1:A2,1),..)+1) with W alternatives, each one row longer than the one before
+rising_chain_D.json      ATAN2(@r,ATAN2(@r,..)), D deep, each range one row longer than the one below
 """
 
 import sys
@@ -44,6 +50,33 @@ def nested(depth):
     return formula
 
 
+def rows(count):
+    return f'["range",0,null,true,true,1,1,true,true,{count},1]'
+
+
+def row(name, wide):
+    argument = f'["at",false,{RANGE}]'
+    last = f'["at",false,["add",{RANGE},["num",1]]]'
+    return f'["call","{name}",' + ",".join([argument] * (wide - 1) + [last]) + "]"
+
+
+def row_tried(wide):
+    argument = f'["at",true,{RANGE}]'
+    return '["call","CONCATENATE",' + ",".join([argument] * (wide - 1) + [LOOKS_PUT]) + "]"
+
+
+def rising_choose(wide):
+    parts = [f'["call","IF",["at",true,{rows(2 + number)}],["num",1]]' for number in range(wide)]
+    return '["call","ABS",["add",["call","CHOOSE",["num",1],' + ",".join(parts) + '],["num",1]]]'
+
+
+def rising_chain(deep):
+    formula = '["num",1]'
+    for number in range(deep):
+        formula = f'["call","ATAN2",["at",true,{rows(2 + number)}],{formula}]'
+    return f'["add",{formula},{LOOKS_PUT}]'
+
+
 def of_nodes(nodes, some, nodes_each):
     """A sum of so many nodes in all, of which some are given, each of so many nodes, and the others are numbers."""
     numbers = (nodes + 1 - len(some) * (nodes_each + 1)) // 2
@@ -71,6 +104,19 @@ def requests():
         yield f"kept_{nodes}_{ats}", of_nodes(nodes, [KEPT] * ats, 3)
         yield f"put_{nodes}_{ats}", of_nodes(nodes, [RANGE] * ats, 1)
         yield f"tried_{nodes}_{ats}", of_nodes(nodes, [LOOKS_PUT] + [RANGE] * (ats - 1), 1)
+    for ats in (1200, 12000, 200000):
+        yield f"all_kept_{ats}", balanced([KEPT] * ats, add)
+    for ats in (2000, 20000, 310000):
+        yield f"all_put_{ats}", balanced([RANGE] * ats, add)
+        yield f"all_tried_{ats}", balanced([LOOKS_PUT] + [RANGE] * (ats - 1), add)
+    for wide in (1000, 10000, 100000):
+        yield f"row_tried_{wide}", row_tried(wide)
+        for name in ("CONCATENATE", "SUM", "CHOOSE"):
+            yield f"row_{name}_{wide}", row(name, wide)
+    for wide in (100, 1000, 10000):
+        yield f"rising_choose_{wide}", rising_choose(wide)
+    for deep in (15, 30, 60, 120):
+        yield f"rising_chain_{deep}", rising_chain(deep)
 
 
 def main():

@@ -8,6 +8,7 @@ use std::alloc::Global;
 use std::test::Fail;
 use tree_core::{Node, Plain, Steps};
 
+mod by_definition;
 mod exports;
 mod nested;
 

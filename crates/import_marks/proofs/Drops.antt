@@ -90,7 +90,7 @@ module _ (which : ImportRule) (table : Table) where
 
   -- ---- the shape of a bare node
 
-  bare-is : (l : Label) (es : Trees) → bare_shape table (form_of l) (lists_of l (shown_all es)) (lists_of l (shapes table es)) ≡ node_shape table l (shown_all es) (shapes table es)
+  pub bare-is : (l : Label) (es : Trees) → bare_shape table (form_of l) (lists_of l (shown_all es)) (lists_of l (shapes table es)) ≡ node_shape table l (shown_all es) (shapes table es)
   bare-is (leaf l) es = refl
   bare-is (passing p) es = refl
   bare-is spill es = refl

@@ -1,5 +1,3 @@
-pub mod Withouts
-pub mod OneDrop
-pub mod Fixed
+pub mod Counts
 pub mod Exports
-pub mod Strips
+pub mod Lefts

@@ -1,4 +1,2 @@
-pub mod Drops
-pub mod Stripped
-pub mod Export
+pub mod First
 pub mod ExportsComeBack

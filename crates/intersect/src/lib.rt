@@ -1,8 +1,8 @@
 //! The implicit intersection operator `@`: import, which puts it where a spreadsheet of values wants one value, and export.
 //!
 //! - `import_core` imports; what it offers of import is handed on here.
-//! - `export`: an imported formula with `@`s dropped, so that its import is the formula again; it tries those that
-//!   `stripped` and `numbered_drop` give.
+//! - `export`: an imported formula with `@`s dropped, so that its import is the formula again. Nothing is imported for it: what is
+//!   known of each node tells whether an `@` can go.
 //! - `laws`: what holds of export whatever the formula.
 #![tactic(auto)]
 
@@ -15,5 +15,3 @@ pub use laws::exports_come_back;
 
 mod export;
 mod laws;
-mod numbered_drop;
-mod stripped;

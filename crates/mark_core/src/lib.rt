@@ -8,6 +8,7 @@
 #![tactic(auto)]
 
 pub use mark::{Form, Known, Mark};
+pub use shape::bare_shape;
 pub use sweep::drop_what_can;
 pub use way::wants_part;
 

@@ -64,8 +64,8 @@ impl Known {
         }
     }
 
-    /// What the node shows of itself.
-    pub(crate) fn shown(&self) -> Shown
+    /// What the node shows of itself: nothing under an `@`.
+    pub fn shown(&self) -> Shown
         ensures { result ≡ face self.now }
     {
         if self.bare {

@@ -8,7 +8,7 @@ use kind_table::{Asks, Shown, Shows, StaticResult, own_row};
 use tree_core::{Function, Steps};
 
 /// The shape of a bare node over what its parts show and over their shapes. The table is asked at most once, and for a call alone.
-pub(crate) fn bare_shape<K: Asks<L>, L>(
+pub fn bare_shape<K: Asks<L>, L>(
     form: Form,
     shows: &[Shown],
     shapes: &[StaticResult],

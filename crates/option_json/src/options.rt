@@ -6,7 +6,7 @@ ghost use Rattle.option_json.specs.Options.{limit_in, limit_or, of_version, opti
 
 use crate::rule::read_rule;
 use crate::version::{Version, read_version};
-use intersect::ImportRule;
+use import_core::ImportRule;
 use serde_json::Value;
 use value_json::FormError;
 

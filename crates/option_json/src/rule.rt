@@ -3,7 +3,7 @@ ghost use Rattle.serde_json.specs.View.{view};
 ghost use Rattle.value_json.specs.Reading.{Finds};
 ghost use Rattle.option_json.specs.Options.{rule_in, rule_name, rule_named};
 
-use intersect::ImportRule;
+use import_core::ImportRule;
 use serde_json::Value;
 use value_json::FormError;
 

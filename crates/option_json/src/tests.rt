@@ -1,5 +1,5 @@
 use super::*;
-use intersect::ImportRule;
+use import_core::ImportRule;
 use serde_json::Value;
 use std::test::Fail;
 use value_json::FormError;

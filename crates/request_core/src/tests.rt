@@ -1,6 +1,6 @@
 use crate::{FormError, Request, read_request};
 use book_core::{Book, Reads};
-use intersect::ImportRule;
+use import_core::ImportRule;
 use std::alloc::{AllocError, Global};
 use std::test::Fail;
 use tree_core::{Node, Plain, Steps};

@@ -15,7 +15,7 @@ use std::test::Fail;
 use tree_core::{Node, Plain, Steps};
 
 /// Formulas that are imported by the crate's rule, of which one value is wanted, and the only formula that each is exported as.
-static WANTED: [(&str, &str); 12] = [
+pub(super) static WANTED: [(&str, &str); 12] = [
     ("A1:A3 @ 1 + SIN/1", "A1:A3 @ 1 + SIN/1"),
     ("A1:A5 @ SIN/1 @", "A1:A5 @ SIN/1 @"),
     ("A1:A5 B1:B3 ~ INDEX/2 ~", "A1:A5 B1:B3 INDEX/2"),
@@ -34,13 +34,13 @@ static WANTED: [(&str, &str); 12] = [
 ];
 
 /// Imported formulas of which no one value is wanted.
-static NOT_WANTED: [(&str, &str); 2] = [
+pub(super) static NOT_WANTED: [(&str, &str); 2] = [
     ("x ~", "x ~"),
     ("A1:A5 B1:B3 ~ INDEX/2", "A1:A5 B1:B3 INDEX/2"),
 ];
 
 /// So where every argument taken as one value wants one.
-static EVERY: [(&str, &str); 5] = [
+pub(super) static EVERY: [(&str, &str); 5] = [
     ("A1:A5 ~ 1 + SIN/1", "A1:A5 1 + SIN/1"),
     ("A1:A3 ~ 5 - ABS/1", "A1:A3 5 - ABS/1"),
     ("x ~ SIN/1", "x SIN/1"),
@@ -170,7 +170,7 @@ fn exports_in_place(alloc: Global, add: bool, given: &str, wanted: &str) -> Resu
 }
 
 /// The formula of some words, which has to be its own import.
-fn own_import<K: Asks<Plain>>(
+pub(super) fn own_import<K: Asks<Plain>>(
     alloc: Global,
     kinds: &K,
     rule: ImportRule,

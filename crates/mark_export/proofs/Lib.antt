@@ -1,3 +1,0 @@
-pub mod Lefts
-pub mod Counts
-pub mod Exports
