@@ -4,20 +4,20 @@
 --   begins     at first of the base itself
 --   goes_on, follows  after a drop that can go, and after drops one after the other
 --   ends       where no drop can go, that formula is an export
-use Rattle.std.proofs.Common.{◌≡◌, ◌↔◌, ℕ, zero, suc, Bool, true, false, ◌&&◌, List, [], ◌∷◌, inl, inr, ◌⊎◌, refl, sym, ap, ◌∙◌, subst}
+use Rattle.std.proofs.Common.{◌≡◌, ℕ, zero, suc, Bool, true, false, List, [], ◌∷◌, inl, inr, ◌⊎◌, refl, sym, ap, ◌∙◌, subst}
 use Rattle.std.specs.Prelude.{⊤}
 use Rattle.std.proofs.lemmas.Bool.{and_parts, and_from, false_from_ne_true}
 use Rattle.kind_table.specs.Table.{Table}
-use Rattle.tree_core.specs.Tree.{Run, Tree, tree, Trees, none, more}
+use Rattle.tree_core.specs.Tree.{Tree, tree, Trees, none, more}
 use Rattle.tree_core.specs.Place.{Place}
 use Rattle.import_core.specs.declared.rule.ImportRule.{ImportRule}
 use Rattle.import_core.specs.After.{context}
 use Rattle.import_core.specs.ComesBack.{ComesBack}
-use Rattle.import_core.specs.Dropped.{IsSubsequence, Dropped}
+use Rattle.import_core.specs.Dropped.{Dropped}
 use Rattle.import_core.specs.Exported.{Exported}
 use Rattle.import_core.specs.ImportRule.{import_rule, is_closed}
 use Rattle.import_core.proofs.Settle.{IsMonotone}
-use Rattle.import_core.proofs.Trimmed.{Trimmed, AllTrimmed, sub-itself, trims_of, dropped-more}
+use Rattle.import_core.proofs.Trimmed.{trims_of, dropped-more}
 use Rattle.export_marks.specs.Bared.{bared, bared_in}
 use Rattle.export_marks.specs.Trial.{IsWay, IsWayIn, fits}
 use Rattle.export_marks.proofs.Bares.{bared-dropped}

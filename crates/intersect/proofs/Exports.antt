@@ -91,6 +91,12 @@ bound calls n = 2 * calls * (n + 1) * (n + 1)
 bound-is : (calls n : ℕ) → bound calls n ≡ calls * (2 * ((n + 1) * (n + 1)))
 bound-is calls n = omega arith
 
+pub twice_counted : (calls from s t : ℕ) → s ≤ from + 2 * calls → t ≤ s + 2 * calls → t ≤ from + 4 * calls
+twice_counted calls from s t h k = omega arith
+
+pub some_at : (n ats : ℕ) → n ≡ ats → ¬ (n ≡ 0) → 0 < ats
+some_at n ats is some = omega arith
+
 pub few_counted : (calls n from s : ℕ) → s ≤ from + 2 * calls → s ≤ from + bound calls n
 few_counted calls n from s h =
     let few : 2 ≤ 2 * ((n + 1) * (n + 1)) = omega arith in

@@ -4,7 +4,7 @@
 use Rattle.std.proofs.Common.{◌≡◌, ℕ, zero, suc, ◌+◌, ◌<◌, List, [], ◌∷◌, ◌++◌, map, length, take, get_or, slice_get, Bool, true, false, if◌then◌else◌, Option, refl, ap, ap₂, sym, ◌∙◌, arith}
 use Rattle.std.proofs.lemmas.List.{map-append}
 use Rattle.tree_core.specs.Label.{Closed, closed}
-use Rattle.tree_core.specs.Tree.{Run, Tree, tree, Trees, none, more, forest, under}
+use Rattle.tree_core.specs.Tree.{Tree, tree, Trees, more, forest, under}
 use Rattle.tree_core.specs.Formula.{tree_of}
 use Rattle.tree_core.specs.declared.node.Node.{Node}
 use Rattle.import_core.specs.ImportRule.{is_closed}

@@ -4,7 +4,7 @@
 --   is_candidate  an `@` stands over a range-like node, and one value may come to be wanted there
 --   below         the places of some parts, from a number on
 --   candidates    the places, in the order of the formula from its front, from whether one value is wanted of it
-use Rattle.std.specs.Prelude.{ℕ, suc, Bool, true, false, not, ◌&&◌, if◌then◌else◌, List, [], ◌∷◌, ◌++◌, length, map}
+use Rattle.std.specs.Prelude.{ℕ, suc, Bool, false, not, ◌&&◌, if◌then◌else◌, List, [], ◌∷◌, ◌++◌, length, map}
 use Rattle.kind_table.specs.declared.static_result.StaticResult.TheVariants.{Unknown}
 use Rattle.kind_table.specs.Table.{Table}
 use Rattle.tree_core.specs.Place.{Place}

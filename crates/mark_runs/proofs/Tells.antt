@@ -1,7 +1,6 @@
 -- What is known of an imported formula once its put `@`s go or stand again is what is known of that formula.
 --   goes, stands   there: from the marks of the formula with them to those without, and back
-use Rattle.std.proofs.Common.{◌≡◌, ℕ, zero, suc, Bool, true, false, not, ◌&&◌, ◌||◌, if◌then◌else◌, List, [], ◌∷◌, map, slice_get, Some, None, refl, sym, ap, ap₂, ◌∙◌, subst}
-use Rattle.std.specs.Prelude.{slice_set}
+use Rattle.std.proofs.Common.{◌≡◌, ℕ, suc, Bool, true, false, not, ◌||◌, if◌then◌else◌, [], ◌∷◌, slice_get, Some, None, refl, sym, ap, ap₂, ◌∙◌}
 use Rattle.std.specs.Option.{option_map_or}
 use Rattle.kind_table.specs.declared.shown.Shown.{Shown}
 use Rattle.kind_table.specs.declared.static_result.StaticResult.{StaticResult}
@@ -9,16 +8,14 @@ use Rattle.kind_table.specs.declared.static_result.StaticResult.TheVariants.{Sca
 use Rattle.kind_table.specs.Table.{Table}
 use Rattle.tree_core.specs.Label.{Label}
 use Rattle.tree_core.specs.Tree.{Run, Tree, tree, Trees, none, more}
-use Rattle.shape_core.specs.Shape.{shape, shapes, shown, shown_all}
+use Rattle.shape_core.specs.Shape.{shapes, shown, shown_all}
 use Rattle.import_core.specs.declared.rule.ImportRule.{ImportRule}
-use Rattle.import_core.specs.After.{may_be_range_like}
 use Rattle.import_core.specs.ImportOf.{is_bare}
 use Rattle.import_core.specs.ImportRule.{import_rule, is_closed}
 use Rattle.import_core.proofs.Shows.{any_children}
 use Rattle.export_marks.specs.Trial.{settles}
-use Rattle.mark_core.specs.declared.mark.Known.{Known}
 use Rattle.mark_core.specs.declared.mark.Mark.{Mark}
-use Rattle.mark_core.specs.Mark.{known_of, parts_of, mark_of, bare_shape, face, seen}
+use Rattle.mark_core.specs.Mark.{known_of, mark_of, face}
 use Rattle.import_marks.specs.Marks.{marks, all_marks, form_of}
 use Rattle.import_marks.proofs.Drops.{bare-is, known-marks, parts-marks, seen-marks, shape-marks}
 use Rattle.mark_return.specs.Put.{is_put, without_put, all_without_put}

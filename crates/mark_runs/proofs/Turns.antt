@@ -2,19 +2,18 @@
 --   turned-under   under one more `@`
 --   calls-are      its calls
 --   parts          what is to come of a row, once a part of it is set
-use Rattle.std.proofs.Common.{◌≡◌, ℕ, zero, suc, ◌+◌, ◌≤◌, List, [], ◌∷◌, length, map, drop, slice_get, Some, None, Bool, true, false, ◌&&◌, if◌then◌else◌, refl, sym, ap, ap₂, ◌∙◌, arith}
+use Rattle.std.proofs.Common.{◌≡◌, ℕ, zero, suc, ◌+◌, ◌≤◌, List, [], ◌∷◌, map, drop, slice_get, Some, None, Bool, true, false, ◌&&◌, if◌then◌else◌, refl, sym, ap, ap₂, ◌∙◌, arith}
 use Rattle.std.proofs.lemmas.List.Sums.{sum_by-cons}
 use Rattle.std.specs.Prelude.{sum, slice_set}
 use Rattle.kind_table.specs.Table.{Table}
-use Rattle.tree_core.specs.Label.{Label}
 use Rattle.tree_core.specs.Formula.{tree_of}
-use Rattle.tree_core.specs.Tree.{Run, Tree, tree, Trees, none, more, forest, under, run_of, label_of}
+use Rattle.tree_core.specs.Tree.{Tree, tree, forest, under, run_of, label_of}
 use Rattle.tree_core.specs.declared.node.Node.{Node}
 use Rattle.tree_core.proofs.Parts.{drop-on}
 use Rattle.import_core.specs.After.{may_be_range_like}
 use Rattle.import_core.specs.ImportOf.{is_bare}
 use Rattle.mark_core.specs.declared.mark.Mark.{Mark}
-use Rattle.mark_core.specs.Mark.{known_of, parts_of, calls_here, calls_in}
+use Rattle.mark_core.specs.Mark.{calls_in}
 use Rattle.mark_core.proofs.Counts.{calls-are}
 use Rattle.mark_runs.specs.Turned.{Row, covered, turned, turned_part, turned_row}
 

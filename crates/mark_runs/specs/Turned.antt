@@ -5,7 +5,7 @@
 --   turned        what is known of a formula once the `@`s that import put go out of it, or stand again: over the nodes that import
 --                 enters
 --   turned_part, turned_row  so of part i of a node, and of all from part i on
-use Rattle.std.specs.Prelude.{ℕ, suc, Bool, true, false, ◌||◌, if◌then◌else◌, List, slice_get, slice_set}
+use Rattle.std.specs.Prelude.{ℕ, suc, Bool, true, false, if◌then◌else◌, List, slice_get, slice_set}
 use Rattle.std.specs.Option.{option_map_or}
 use Rattle.kind_table.specs.declared.shown.Shown.{Shown}
 use Rattle.kind_table.specs.declared.static_result.StaticResult.{StaticResult}

@@ -14,7 +14,7 @@ static POWERS: [usize; 7] = [1, 2, 4, 8, 16, 32, 64];
 static PAIRS: [&str; 3] = [
     "A1:A3 @ B1:B3 @ 0/2 C1:C3 + FORMULATEXT/1",
     "A1:A3 @ B1:B3 @ 0/2 C1:C3 + FORMULATEXT/1 A1:A3 @ B1:B3 @ 0/2 C1:C3 + FORMULATEXT/1 +",
-    "A1:A3 @ B1:B3 @ 0/2 C1:C3 @ B1:B3 @ 0/2 + FORMULATEXT/1",
+    "A1:A3 @ B1:B3 @ 0/2 C1:C3 + FORMULATEXT/1 x ~ +",
 ];
 
 /// What `exported` gives, and what trying one `@` after the other by import gives, are exports by the definition: the import of each

@@ -1,4 +1,4 @@
-use Rattle.std.proofs.Common.{◌≡◌, refl, ◌∙◌, ◌++◌, [], ◌∷◌, List, ap, length, sym, map, arith, rules}
+use Rattle.std.proofs.Common.{◌≡◌, refl, ◌∙◌, ◌++◌, [], ◌∷◌, ap, length, sym, map, arith, rules}
 use Rattle.mark_places.proofs.Listed.{first-none, first-one, listed-end, listed-step, shortened}
 use Rattle.mark_places.proofs.listing.+list.Goals.{then-is_candidate+in_ok-place+in_ok-push, else-is_candidate}
 use Rattle.mark_places.proofs.listing.+list.Goals as goal
