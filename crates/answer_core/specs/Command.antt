@@ -6,7 +6,9 @@
 --   command_of_one, command_of_two, command_of_three   the command of one word, of two, and of three
 --   command_of       the command that the words are, if they are one
 --   command_in       the same, of words as the program has them
+--   command_in_text  the same, of a text, whose words stand between its spaces
 use Rattle.std.specs.Prelude.{ℕ, zero, suc, ◌==◌, nat_le, Bool, false, not, ◌&&◌, ◌||◌, List, [], ◌∷◌, map, String, string_bytes, codes, if◌then◌else◌, Option, None, Some}
+use Rattle.std.specs.List.{slice_split}
 use Rattle.std.specs.Option.{option_map}
 use Rattle.std.specs.Str.{bytes_eq}
 use Rattle.std.specs.Str.Parse.{digits_value}
@@ -58,3 +60,6 @@ command_of (word ∷ first ∷ second ∷ third ∷ words) = None
 
 abbrev pub command_in : List (String Global) → Option Command
 command_in words = command_of (map string_bytes words)
+
+abbrev pub command_in_text : List ℕ → Option Command
+command_in_text text = command_of (slice_split (λ byte. byte == 32) text)

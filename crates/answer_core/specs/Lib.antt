@@ -5,3 +5,4 @@ pub mod Command
 pub mod Refusal
 pub mod Run
 pub mod Status
+pub mod Formula

@@ -115,8 +115,8 @@ pub(crate) struct Meant {
 /// The formulas of an answer.
 #[derive(Drop)]
 pub(crate) struct Formulas {
-    imported: Node,
-    exported: Node,
+    pub(crate) imported: Node,
+    pub(crate) exported: Node,
 }
 
 /// The shapes of an answer.
@@ -178,7 +178,7 @@ fn meant_of<K: Kinds, B: Reads<Plain>, F: Formats>(
     })
 }
 
-fn formulas_of<K: Asks<L>, L>(
+pub(crate) fn formulas_of<K: Asks<L>, L>(
     alloc: Global,
     kinds: &K,
     rule: ImportRule,

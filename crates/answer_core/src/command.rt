@@ -1,9 +1,9 @@
 ghost use Rattle.std.specs.Prelude.{◌≡◌};
-ghost use Rattle.answer_core.specs.Command.{at_most, begins_in_vain, cell_of, command_in, command_of_one, command_of_three, command_of_two, number_in, place_in};
+ghost use Rattle.answer_core.specs.Command.{at_most, begins_in_vain, cell_of, command_in, command_in_text, command_of_one, command_of_three, command_of_two, number_in, place_in};
 
-/// What the words behind the program's name ask for.
+/// What words ask for, as those behind the program's name.
 #[derive(Clone, Copy, Debug)]
-pub(crate) enum Command {
+pub enum Command {
     /// The answer to the request that the source has.
     Answer,
     /// The element of a formula's value at a row and a column, counted from 1, by the request that the source has.
@@ -22,6 +22,22 @@ impl Command {
             [word, number] => command_of_two(word.as_str(), number.as_str()),
             [word, row, column] => command_of_three(word.as_str(), row.as_str(), column.as_str()),
             _ => None,
+        }
+    }
+
+    /// The command that the words of a text are, between each two of which a space stands.
+    pub fn from_text(text: &str) -> Option<Command>
+        ensures { result ≡ command_in_text text.now }
+    {
+        let Some((word, behind)) = text.split_once(' ') else {
+            return command_of_one(text);
+        };
+        let Some((first, last)) = behind.split_once(' ') else {
+            return command_of_two(word, behind);
+        };
+        match last.split_once(' ') {
+            Some(_) => None,
+            None => command_of_three(word, first, last),
         }
     }
 }

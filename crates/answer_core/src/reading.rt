@@ -20,8 +20,8 @@ use tree_core::{Plain, Steps};
 use value_core::ArrayNode;
 use view_core::value_at;
 
-/// The line that a command sends.
-pub(crate) fn line_for<S: Source>(
+/// The line that a command sends, or why there is none. It is what `run` writes.
+pub fn line_for<S: Source>(
     alloc: Global,
     command: Option<Command>,
     source: &mut S,

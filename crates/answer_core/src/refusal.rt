@@ -11,18 +11,24 @@ use tree_core::Memory;
 
 /// Why nothing that was asked for is sent.
 #[derive(Clone, Copy, Debug)]
-pub(crate) enum Refusal {
+pub enum Refusal {
+    /// The words are none of the commands.
     Usage,
+    /// The source refused a call.
     ReadFault,
+    /// The input has more than 16777216 bytes.
     TooLong,
+    /// The input is no request, or no formula.
     BadJson,
+    /// The request's formula isn't valid in its cell: the first bad place.
     BadRequest(Place),
+    /// Memory ran out.
     Memory,
 }
 
 impl Refusal {
     /// The status of a run that ends with this refusal.
-    pub(crate) fn status(self) -> Status
+    pub fn status(self) -> Status
         ensures { result ≡ status_of self }
     {
         match self {
@@ -36,7 +42,7 @@ impl Refusal {
     }
 
     /// The line that is written, with its newline. It takes no memory.
-    pub(crate) fn line(self) -> ArrayString<64>
+    pub fn line(self) -> ArrayString<64>
         ensures { result.bytes ≡ line_of self }
     {
         let mut line = ArrayString::new();

@@ -1,5 +1,5 @@
--- The tokens of seven parts of an object.
---   seven-parts   written one after another, they are those of the object
+-- The tokens of the parts of an object.
+--   two-parts, seven-parts   of two, and of seven: written one after another, they are those of the object
 use Rattle.std.proofs.Common.{◌≡◌, List, [], ◌∷◌, ◌++◌, ap, ◌∙◌, append_assoc}
 use Rattle.json.specs.Token.{Token}
 
@@ -15,3 +15,8 @@ seven-parts old a b c d e f g first last =
     ∙ four-parts ((old ++ first ∷ []) ++ a) b c d (e ++ (f ++ (g ++ last ∷ [])))
     ∙ append_assoc (old ++ first ∷ []) a (b ++ (c ++ (d ++ (e ++ (f ++ (g ++ last ∷ []))))))
     ∙ append_assoc old (first ∷ []) (a ++ (b ++ (c ++ (d ++ (e ++ (f ++ (g ++ last ∷ [])))))))
+
+pub two-parts : (old a b : List Token) (first last : Token)
+    → (((old ++ first ∷ []) ++ a) ++ b) ++ last ∷ [] ≡ old ++ (first ∷ (a ++ (b ++ last ∷ [])))
+two-parts old a b first last =
+    append_assoc ((old ++ first ∷ []) ++ a) b (last ∷ []) ∙ append_assoc (old ++ first ∷ []) a (b ++ last ∷ []) ∙ append_assoc old (first ∷ []) (a ++ (b ++ last ∷ []))

@@ -3,6 +3,7 @@
 --   shape_text   the text of a shape
 --   answer_data  the JSON of an answer: an object with a key for each part, in the order of their names
 --   answer_line  its compact text, and a newline
+--   formulas_data, formulas_line  the same of an exported and an imported formula alone
 use Rattle.std.specs.Prelude.{ℕ, ℤ, List, [], ◌∷◌, ◌++◌, codes}
 use Rattle.std.specs.Fmt.{signed_decimal}
 use Rattle.serde_json.specs.Data.{Data, object, string, no_members, member}
@@ -11,6 +12,7 @@ use Rattle.kind_table.specs.declared.static_result.StaticResult.{StaticResult}
 use Rattle.kind_table.specs.declared.static_result.StaticResult.TheVariants.{Scalar, Array, Range, Unknown}
 use Rattle.value_json.specs.Values.{rows_data}
 use Rattle.formula_json.specs.Formula.{node_data}
+use Rattle.tree_core.specs.declared.node.Node.{Node}
 use Rattle.unit_json.specs.Unit.{unit_or_null}
 use Rattle.print_core.specs.declared.answer.Answer.{Answer}
 
@@ -39,3 +41,9 @@ answer_data answer = object (
 
 abbrev pub answer_line : Answer → List ℕ
 answer_line answer = compact_text (answer_data answer) ++ 10 ∷ []
+
+abbrev pub formulas_data : (exported imported : Node) → Data
+formulas_data exported imported = object (member (codes "exported") (node_data exported) (member (codes "imported") (node_data imported) no_members))
+
+abbrev pub formulas_line : (exported imported : Node) → List ℕ
+formulas_line exported imported = compact_text (formulas_data exported imported) ++ 10 ∷ []

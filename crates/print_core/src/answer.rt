@@ -4,7 +4,7 @@ ghost use Rattle.value_json.specs.Piece.{Writes, data_tokens};
 ghost use Rattle.value_json.specs.Values.{rows_data};
 ghost use Rattle.formula_json.specs.Formula.{node_data};
 ghost use Rattle.unit_json.specs.Unit.{unit_or_null};
-ghost use Rattle.print_core.specs.Answer.{answer_data, answer_line, shape_data};
+ghost use Rattle.print_core.specs.Answer.{answer_data, answer_line, formulas_data, formulas_line, shape_data};
 
 use crate::shape::shape_text;
 use formula_json::write_node;
@@ -59,6 +59,28 @@ fn write_answer(alloc: Global, writer: &mut Writer, answer: &Answer) -> Result<(
     write_value(writer, "legacy", &answer.legacy)?;
     write_value(writer, "spilled", &answer.spilled)?;
     write_display_unit(writer, "unit", &answer.unit)?;
+    writer.end_object()?;
+    Ok(())
+}
+
+/// The line of an imported formula and its export alone: an object with a key for each, as an answer has them, and a newline. The
+/// error means want of memory.
+pub fn formulas_line(alloc: Global, exported: &Node, imported: &Node) -> Result<Vec<u8>, Memory>
+    ensures { IfOk result (λ line. line.items ≡ formulas_line exported.now imported.now) }
+{
+    let mut writer = Writer::new(Vec::new(alloc));
+    write_formulas(&mut writer, exported, imported)?;
+    let mut line = writer.into_inner();
+    line.push(b'\n')?;
+    Ok(line)
+}
+
+fn write_formulas(writer: &mut Writer, exported: &Node, imported: &Node) -> Result<(), Memory>
+    ensures { Writes result writer.old writer.new (data_tokens (formulas_data exported.now imported.now)) }
+{
+    writer.begin_object()?;
+    write_formula(writer, "exported", exported)?;
+    write_formula(writer, "imported", imported)?;
     writer.end_object()?;
     Ok(())
 }

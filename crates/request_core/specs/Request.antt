@@ -6,6 +6,7 @@
 -- `asked_in`    what a JSON value asks for
 -- `request_of`  what bytes ask for
 -- `asked_of`    what a request asks for that was read
+-- `formula_of`  the formula alone that bytes are
 use Rattle.std.specs.Prelude.{ℕ, List, map, Option, Some}
 use Rattle.serde_json.specs.Data.{Data}
 use Rattle.value_core.specs.declared.position.CellReferenceIndex.{CellReferenceIndex}
@@ -20,7 +21,7 @@ use Rattle.option_json.specs.Options.{options_in}
 use Rattle.option_json.specs.declared.options.Options.{Options}
 use Rattle.value_json.specs.Fields.{◌>>=◌}
 use Rattle.value_json.specs.Objects.{has_only}
-use Rattle.request_core.specs.Question.{question_in}
+use Rattle.request_core.specs.Question.{formula_in, question_in}
 use Rattle.request_core.specs.Showing.{showing_in}
 use Rattle.request_core.specs.Text.{data_of}
 use Rattle.request_core.specs.declared.request.Request.{Request}
@@ -59,3 +60,8 @@ request_of bytes = do
 
 abbrev pub asked_of : Request → Asked
 asked_of request = asking (contents_of request.book, request.cell, tree_of request.formula) (parts_of request.formats, request.locale) request.options
+
+unfoldable pub formula_of : List ℕ → Option Tree
+formula_of bytes = do
+  datum ← data_of bytes
+  formula_in datum

@@ -5,11 +5,11 @@
 //! - `cell`: where a cell lies, and a cell of the book.
 //! - `book`: all cells of the book.
 //! - `question`: the keys that every request has; `showing`: number formats and a locale.
-//! - `request`: the request itself, an object whose keys stand in one list.
+//! - `request`: the request itself, an object whose keys stand in one list; a formula alone.
 #![tactic(auto)]
 
 pub use option_json::Options;
-pub use request::{Request, read_request};
+pub use request::{Request, read_formula_alone, read_request};
 pub use value_json::FormError;
 
 mod book;

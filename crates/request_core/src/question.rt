@@ -56,7 +56,7 @@ fn read_sheets(alloc: Global, value: &Value) -> Result<Texts, FormError>
 
 /// A formula of at most 16777216 nodes.
 #[tactic(auto, unfolding(crate::specs::Question::formula_in))]
-fn read_formula(alloc: Global, value: &Value) -> Result<Node, FormError>
+pub(crate) fn read_formula(alloc: Global, value: &Value) -> Result<Node, FormError>
     ensures found { GivesBy tree_of result (formula_in (view value.now)) }
     ensures most { IfOk result (λ node. size_of (tree_of node) ≤ 16777216) }
 {

@@ -3,9 +3,9 @@ ghost use Rattle.serde_json.specs.View.{view};
 ghost use Rattle.tree_core.specs.Count.{size_of};
 ghost use Rattle.tree_core.specs.Formula.{tree_of};
 ghost use Rattle.value_json.specs.Reading.{GivesBy};
-ghost use Rattle.request_core.specs.Request.{asked_in, asked_of, request_of};
+ghost use Rattle.request_core.specs.Request.{asked_in, asked_of, formula_of, request_of};
 
-use crate::question::read_question;
+use crate::question::{read_formula, read_question};
 use crate::showing::read_showing;
 use crate::text::parse;
 use book_core::MemoryBook;
@@ -49,6 +49,17 @@ pub fn read_request(alloc: Global, bytes: &[u8]) -> Result<Request, FormError>
     let value = parse(alloc, bytes)?;
     let request = read_value(alloc, &value)?;
     Ok(request)
+}
+
+/// The formula alone that the bytes of a JSON text are: a node, of at most 16777216 nodes in all.
+#[tactic(auto, unfolding(crate::specs::Request::formula_of))]
+pub fn read_formula_alone(alloc: Global, bytes: &[u8]) -> Result<Node, FormError>
+    ensures found { GivesBy tree_of result (formula_of bytes.now) }
+    ensures most { IfOk result (λ node. size_of (tree_of node) ≤ 16777216) }
+{
+    let value = parse(alloc, bytes)?;
+    let formula = read_formula(alloc, &value)?;
+    Ok(formula)
 }
 
 #[tactic(auto, unfolding(crate::specs::Request::asked_in))]
