@@ -6,4 +6,4 @@ use Rattle.std.specs.Prelude.{◌≡◌, ℕ, ◌<◌, ◌≤◌, ◌⊎◌, Lis
 pub record Handed (code : ℕ) (line old new : List ℕ) (told result : ℕ) : Type 0 where
   pub told_is : told ≡ length line
   pub room_is : ((length line ≤ length old) × (new ≡ line ++ drop (length line) old) × (result ≡ code))
-    ⊎ ((length old < length line) × (new ≡ old) × (result ≡ 1))
+      ⊎ ((length old < length line) × (new ≡ old) × (result ≡ 1))

@@ -70,9 +70,9 @@ pub fn formulas_line(alloc: Global, exported: &Node, imported: &Node) -> Result<
 {
     let mut writer = Writer::new(Vec::new(alloc));
     write_formulas(&mut writer, exported, imported)?;
-    let mut line = writer.into_inner();
-    line.push(b'\n')?;
-    Ok(line)
+    let mut formulas = writer.into_inner();
+    formulas.push(b'\n')?;
+    Ok(formulas)
 }
 
 fn write_formulas(writer: &mut Writer, exported: &Node, imported: &Node) -> Result<(), Memory>
