@@ -13,8 +13,9 @@ all_kept_K.json          K `@`s that can't go and nothing else: sums of SUM(@A1:
                          puts one; all_tried_K, so with one that looks put and can't go
 row_NAME_W.json          a call of NAME over W arguments, each under an `@`, of which that of the last one has to stay: @(A1:A3+1)
 row_tried_W.json         CONCATENATE over W arguments as import leaves them, and one that looks put and can't go
-rising_choose_W.json     ABS(CHOOSE(1,@IF(A1:A2,1),..)+1) with W alternatives, each one row longer than the one before
-rising_chain_D.json      ATAN2(@r,ATAN2(@r,..)), D deep, each range one row longer than the one below
+rising_choose_W.json     ABS(CHOOSE(1,IF(@A1:A2,1),..)+1) with W alternatives, each one row longer than the one before, and one `@`
+                         that looks put and can't go
+rising_chain_D.json      ATAN2(@r,ATAN2(@r,..)), D deep, each range one row longer than the one below, and such an `@`
 """
 
 import sys
@@ -67,14 +68,15 @@ def row_tried(wide):
 
 def rising_choose(wide):
     parts = [f'["call","IF",["at",true,{rows(2 + number)}],["num",1]]' for number in range(wide)]
-    return '["call","ABS",["add",["call","CHOOSE",["num",1],' + ",".join(parts) + '],["num",1]]]'
+    chosen = '["call","ABS",["add",["call","CHOOSE",["num",1],' + ",".join(parts) + '],["num",1]]]'
+    return add(chosen, LOOKS_PUT)
 
 
 def rising_chain(deep):
     formula = '["num",1]'
     for number in range(deep):
         formula = f'["call","ATAN2",["at",true,{rows(2 + number)}],{formula}]'
-    return f'["add",{formula},{LOOKS_PUT}]'
+    return add(formula, LOOKS_PUT)
 
 
 def of_nodes(nodes, some, nodes_each):
