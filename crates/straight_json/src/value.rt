@@ -83,8 +83,8 @@ fn number(text: &str) -> Option<Number>
     match unsigned_whole(text) {
         Some(whole) => Some(Number::from(whole)),
         None => match negative_whole(text) {
-            Some(whole) => Some(Number::from(whole)),
-            None => None,
+            Some(whole) if whole < 0 => Some(Number::from(whole)),
+            _ => None,
         },
     }
 }
