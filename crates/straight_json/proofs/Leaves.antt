@@ -16,6 +16,7 @@ use Rattle.tree_core.specs.declared.corner.Corner.{Corner}
 use Rattle.tree_core.specs.declared.node.Node.{Node}
 use Rattle.tree_core.specs.declared.node.Node.TheVariants.{BooleanKind, NumberKind, StringKind, ReferenceKind, RangeKind, NamedVariableKind}
 use Rattle.tree_core.proofs.Trees.{tree_of-boolean, tree_of-number, tree_of-string, tree_of-reference, tree_of-range, tree_of-named_variable}
+use Rattle.value_json.specs.ErrorValues.{error_at}
 use Rattle.value_json.specs.Fields.{u32_in, u32_at, id_at, i32_at, i64_at, truth_at, text_at, name_at}
 use Rattle.formula_json.specs.Formula.{node_with}
 use Rattle.formula_json.specs.Leaves.{corner_at, boolean_of, number_of, text_of, error_of, empty_of, reference_of, range_of, wrong_reference_of, wrong_range_of, array_of, defined_name_of, table_of, variable_of, parse_error_of, leaf_of}
@@ -116,7 +117,7 @@ variable-tagged depth t0 t1 t2 new name id f1 f2 end = (
 )
 
 leaf-any : (leaf : LeafTag) (a b : Data) (places : List Data) → leaf_of leaf (a ∷ places) ≡ leaf_of leaf (b ∷ places)
-unfolding leaf_of boolean_of number_of text_of error_of empty_of reference_of range_of wrong_reference_of wrong_range_of array_of defined_name_of table_of variable_of parse_error_of
+unfolding leaf_of u32_at id_at i64_at i32_at truth_at text_at name_at error_at corner_at boolean_of number_of text_of error_of empty_of reference_of range_of wrong_reference_of wrong_range_of array_of defined_name_of table_of variable_of parse_error_of
 leaf-any Boolean a b places = refl
 leaf-any Number a b places = refl
 leaf-any Text a b places = refl

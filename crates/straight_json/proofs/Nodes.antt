@@ -55,7 +55,7 @@ tagged-node depth old ts r name tag node e some named it =
 
 -- ---- formulas one after another
 
-with_one : Tree → Option (List Tree) → Option (List Tree)
+abbrev with_one : Tree → Option (List Tree) → Option (List Tree)
 with_one t found = option_map (λ trees. trees ++ t ∷ []) found
 
 later-more : (first : Option Tree) (later : Option (List Tree)) (t : Tree) → (first >>= λ one. with_one t later >>= λ rest. Some (one ∷ rest)) ≡ with_one t (first >>= λ one. later >>= λ rest. Some (one ∷ rest))

@@ -1,6 +1,8 @@
-use Rattle.std.proofs.Common.{◌≡◌, None, [], ◌<◌, length, refl, ap, arith, subst}
+use Rattle.std.proofs.Common.{◌≡◌, None, Some, [], ◌∷◌, ◌++◌, ◌<◌, length, map, sym, ap, ◌∙◌, arith, subst}
 use Rattle.json.specs.Json.{after_end_array}
+use Rattle.tree_core.specs.Formula.{tree_of}
 use Rattle.formula_json.specs.Formula.{node_with}
+use Rattle.straight_json.specs.Straight.{Reads}
 use Rattle.straight_json.proofs.Steps.{passed-none, passed-more, passed-all, reads-shorter}
 use Rattle.straight_json.proofs.Nodes.{tagged-node, nodes-more, one-tagged, two-tagged, call-tagged, named_call-tagged, intersection-tagged, lambda-tagged, lambda_call-tagged}
 use Rattle.straight_json.proofs.node.+node.Goals as goal
@@ -52,3 +54,30 @@ read_lambda-returns t c =
 pub read_lambda_call-returns : goal.read_lambda_call-returns
 read_lambda_call-returns t c =
     lambda_call-tagged c.args.depth c.args.reader.now c.read_node.new.reader c.read_arguments.new.reader c.in_ok-lambda.lambda c.in_ok-arguments.arguments c.in_ok-node.node c.in_ok-lambda.ensures c.in_ok-arguments.ensures c.in_ok-node.ensures
+
+pub read_arguments-arguments-init : goal.read_arguments-arguments-init
+read_arguments-arguments-init t c = ([], passed-none c.args.depth c.args.reader.now, ap (λ nodes. Some (map tree_of nodes)) (sym c.new-arguments.ensures))
+
+pub read_arguments-arguments-smaller : goal.read_arguments-arguments-smaller
+read_arguments-arguments-smaller t c =
+    let l = c.arguments in
+    let going : (after_end_array l.reader ≡ None) × (c.take_end_array.new.self ≡ l.reader) = grind arith in
+    let it = c.in_ok-argument.ensures in
+    let less : length c.read_node.new.reader < length c.take_end_array.new.self = reads-shorter c.args.depth c.take_end_array.new.self c.read_node.new.reader it.0 it.1 in
+    subst (λ ts. length c.read_node.new.reader < length ts) going.1 less
+
+pub read_arguments-arguments-preserved : goal.read_arguments-arguments-preserved
+read_arguments-arguments-preserved t c =
+    let l = c.arguments in
+    let going : (after_end_array l.reader ≡ None) × (c.take_end_array.new.self ≡ l.reader) = grind arith in
+    let it = c.in_ok-argument.ensures in
+    let first : Reads c.args.depth l.reader it.0 c.read_node.new.reader = rw (← going.1) it.1 in (
+      l.invariant.0 ++ it.0 ∷ [],
+      passed-more c.args.depth c.args.reader.now l.reader c.read_node.new.reader l.invariant.0 it.0 l.invariant.1 first,
+      nodes-more l.invariant.0 it.0 l.arguments c.in_ok-argument.argument l.invariant.2 it.2 ∙ ap (λ nodes. Some (map tree_of nodes)) (sym c.in_ok-add.ensures.done),
+    )
+
+pub read_arguments-returns : goal.read_arguments-returns
+read_arguments-returns t c =
+    let l = c.arguments in
+    (l.invariant.0, passed-all c.args.depth c.args.reader.now l.reader c.take_end_array.new.self l.invariant.0 l.invariant.1 (grind arith), l.invariant.2)

@@ -46,3 +46,48 @@ read_members-members-preserved t c =
       (λ all new later. l.invariant.0 all new (members-more c.args.depth k l.reader s r new d before all named c.in_ok-value.ensures.read (subst (λ found. ReadsMembers c.args.depth r found all new) inserted later))),
       omega (arith, l.invariant.1, less, lesser),
     )
+
+pub read_members-returns-in_default-next-clause-read : goal.read_members-returns-in_default-next-clause-read
+read_members-returns-in_default-next-clause-read t c =
+    let l = c.members in
+    let closed : read_key l.reader ≡ Some (None, c.next_key.new.self) = grind arith in
+    l.invariant.0 (members_view l.found.entries) c.next_key.new.self (members-end c.args.depth l.reader c.next_key.new.self (members_view l.found.entries) closed)
+
+pub read_value-returns-in-Null-clause-read : goal.read_value-returns-in-Null-clause-read
+read_value-returns-in-Null-clause-read t c =
+    let is : c.args.reader.now ≡ Token.null ∷ c.next.new.self = grind arith in
+    let seen : view (Null) ≡ null = search (rules, the_lemmas) in
+    ap (λ ts. converted of_json (value c.args.depth ts)) is ∙ null-reads c.args.depth c.next.new.self ∙ ap (λ d. Some (d, c.next.new.self)) (sym seen)
+
+pub read_value-returns-in-Bool-clause-read : goal.read_value-returns-in-Bool-clause-read
+read_value-returns-in-Bool-clause-read t c =
+    let is : c.args.reader.now ≡ Token.boolean c.in-Bool.truth ∷ c.next.new.self = grind arith in
+    let seen : view (Bool c.in-Bool.truth) ≡ boolean c.in-Bool.truth = search (rules, the_lemmas) in
+    ap (λ ts. converted of_json (value c.args.depth ts)) is ∙ boolean-reads c.args.depth c.in-Bool.truth c.next.new.self ∙ ap (λ d. Some (d, c.next.new.self)) (sym seen)
+
+pub read_value-returns-in-Some-number-clause-read : goal.read_value-returns-in-Some-number-clause-read
+read_value-returns-in-Some-number-clause-read t c =
+    let is : c.args.reader.now ≡ Token.number c.in-Number.text.now ∷ c.next.new.self = grind arith in
+    let seen : view (Number c.in-Some-number.number) ≡ number (number_view c.in-Some-number.number) = search (rules, the_lemmas) in
+    ap (λ ts. converted of_json (value c.args.depth ts)) is ∙ number-reads c.args.depth c.in-Number.text.now (number_view c.in-Some-number.number) c.next.new.self c.in-Some-number.ensures ∙ ap (λ d. Some (d, c.next.new.self)) (sym seen)
+
+pub read_value-returns-in_ok-from_str-in-String-clause-read : goal.read_value-returns-in_ok-from_str-in-String-clause-read
+read_value-returns-in_ok-from_str-in-String-clause-read t c =
+    let found = c.in_ok-from_str-in-String in
+    let is : c.args.reader.now ≡ Token.string c.in-String.text.now ∷ c.next.new.self = grind arith in
+    let seen : view (String found.field-0) ≡ string c.in-String.text.now = search (rules, the_lemmas) in
+    ap (λ ts. converted of_json (value c.args.depth ts)) is ∙ string-reads c.args.depth c.in-String.text.now c.next.new.self ∙ ap (λ d. Some (d, c.next.new.self)) (sym seen)
+
+pub read_value-returns-in_ok-read_items-in-BeginArray-clause-read : goal.read_value-returns-in_ok-read_items-in-BeginArray-clause-read
+read_value-returns-in_ok-read_items-in-BeginArray-clause-read t c =
+    let found = c.in_ok-read_items-in-BeginArray in
+    let is : c.args.reader.now ≡ Token.begin_array ∷ c.next.new.self = grind arith in
+    ap (λ ts. converted of_json (value c.args.depth ts)) is ∙ array-reads c.args.depth c.next.new.self c.read_items.new.reader (map view found.field-0.items) (omega arith) found.ensures.read
+    ∙ ap (λ d. Some (d, c.read_items.new.reader)) (sym (view-Array found.field-0))
+
+pub read_value-returns-in_ok-read_members-in-BeginObject-clause-read : goal.read_value-returns-in_ok-read_members-in-BeginObject-clause-read
+read_value-returns-in_ok-read_members-in-BeginObject-clause-read t c =
+    let found = c.in_ok-read_members-in-BeginObject in
+    let is : c.args.reader.now ≡ Token.begin_object ∷ c.next.new.self = grind arith in
+    ap (λ ts. converted of_json (value c.args.depth ts)) is ∙ object-reads c.args.depth c.next.new.self c.read_members.new.reader (members_view found.field-0.entries) (omega arith) found.ensures.read
+    ∙ ap (λ d. Some (d, c.read_members.new.reader)) (sym (view-Object found.field-0))
