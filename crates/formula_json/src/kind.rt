@@ -11,7 +11,8 @@ use serde_json::Value;
 use tree_core::{Function, Memory};
 use value_json::{FormError, read_item, write_whole};
 
-fn kind_named(name: &str) -> Option<Function>
+/// The kind of function with a name.
+pub fn kind_named(name: &str) -> Option<Function>
     ensures { result ≡ kind_named name.now }
 {
     function_named(name)

@@ -7,7 +7,10 @@
 //! - `kind`: the kind of function of a call.
 #![tactic(auto)]
 
+pub use kind::kind_named;
+pub use leaf::read_leaf;
 pub use node::{read_node, write_node};
+pub use tag::{LeafTag, Tag, tag_named};
 
 mod kind;
 mod leaf;

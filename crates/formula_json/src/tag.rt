@@ -44,8 +44,9 @@ pub enum LeafTag {
     ParseError,
 }
 
+/// The tag with a name.
 #[tactic(auto, unfolding(crate::specs::Tags::tag_named))]
-fn tag_named(name: &str) -> Option<Tag>
+pub fn tag_named(name: &str) -> Option<Tag>
     ensures { result ≡ tag_named name.now }
 {
     Some(match name {
