@@ -44,7 +44,7 @@ unfolding node_with leaf_of truth_at
 boolean-tagged depth t0 t1 new truth f1 end = (
   f1.0 ∷ [],
   items-more depth t0 t1 new f1.0 [] (f1.1 depth) (items-end depth t1 new end),
-    λ name. ap (option_map bare_leaf) (boolean-of (name ∷ f1.0 ∷ []) truth refl f1.2) ∙ ap Some (sym (tree_of-boolean truth)),
+  λ name. ap (option_map bare_leaf) (boolean-of (name ∷ f1.0 ∷ []) truth refl f1.2) ∙ ap Some (sym (tree_of-boolean truth)),
 )
 
 number-of : (places : List Data) (n : ℤ) → length places ≡ 2 → i64_at 1 places ≡ Some n → number_of places ≡ Some (label.number n)
@@ -56,7 +56,7 @@ unfolding node_with leaf_of i64_at
 number-tagged depth t0 t1 new n f1 end = (
   f1.0 ∷ [],
   items-more depth t0 t1 new f1.0 [] (f1.1 depth) (items-end depth t1 new end),
-    λ name. ap (option_map bare_leaf) (number-of (name ∷ f1.0 ∷ []) n refl f1.2) ∙ ap Some (sym (tree_of-number n)),
+  λ name. ap (option_map bare_leaf) (number-of (name ∷ f1.0 ∷ []) n refl f1.2) ∙ ap Some (sym (tree_of-number n)),
 )
 
 text-of : (places : List Data) (text : List ℕ) → length places ≡ 2 → text_at 1 places ≡ Some text → text_of places ≡ Some (label.string text)
@@ -68,7 +68,7 @@ unfolding node_with leaf_of text_at
 text-tagged depth t0 t1 new text f1 end = (
   f1.0 ∷ [],
   items-more depth t0 t1 new f1.0 [] (f1.1 depth) (items-end depth t1 new end),
-    λ name. ap (option_map bare_leaf) (text-of (name ∷ f1.0 ∷ []) text refl f1.2) ∙ ap Some (sym (tree_of-string text)),
+  λ name. ap (option_map bare_leaf) (text-of (name ∷ f1.0 ∷ []) text refl f1.2) ∙ ap Some (sym (tree_of-string text)),
 )
 
 reference-of : (places : List Data) (name : Option (List ℕ)) (index : ℕ) (k : Corner) → length places ≡ 7 → u32_at 1 places ≡ Some index → name_at 2 places ≡ Some name → corner_at 3 places ≡ Some k
@@ -83,8 +83,8 @@ reference-tagged depth t0 t1 t2 t3 new name index k f1 f2 c end =
     let ends = c.3.0 ∷ c.4.0 ∷ c.5.0 ∷ c.6.0 ∷ [] in (
       f1.0 ∷ f2.0 ∷ ends,
       items-more depth t0 t1 new f1.0 (f2.0 ∷ ends) (f1.1 depth) (items-more depth t1 t2 new f2.0 ends (f2.1 depth) (corner-more depth t2 t3 new k [] c (items-end depth t3 new end))),
-        λ tag. ap (option_map bare_leaf) (reference-of (tag ∷ f1.0 ∷ f2.0 ∷ ends) name index k refl f1.2 f2.2 (corner-of (tag ∷ f1.0 ∷ f2.0 ∷ ends) 3 k c.3.2 c.4.2 c.5.2 c.6.2))
-            ∙ ap Some (sym (tree_of-reference name index k.absolute_row k.absolute_column k.row k.column)),
+      λ tag. ap (option_map bare_leaf) (reference-of (tag ∷ f1.0 ∷ f2.0 ∷ ends) name index k refl f1.2 f2.2 (corner-of (tag ∷ f1.0 ∷ f2.0 ∷ ends) 3 k c.3.2 c.4.2 c.5.2 c.6.2))
+          ∙ ap Some (sym (tree_of-reference name index k.absolute_row k.absolute_column k.row k.column)),
     )
 
 range-of : (places : List Data) (name : Option (List ℕ)) (index : ℕ) (k l : Corner) → length places ≡ 11 → u32_at 1 places ≡ Some index → name_at 2 places ≡ Some name → corner_at 3 places ≡ Some k → corner_at 7 places ≡ Some l
@@ -100,8 +100,8 @@ range-tagged depth t0 t1 t2 t3 t4 new name index k l f1 f2 c d end =
     let ends = c.3.0 ∷ c.4.0 ∷ c.5.0 ∷ c.6.0 ∷ second in (
       f1.0 ∷ f2.0 ∷ ends,
       items-more depth t0 t1 new f1.0 (f2.0 ∷ ends) (f1.1 depth) (items-more depth t1 t2 new f2.0 ends (f2.1 depth) (corner-more depth t2 t3 new k second c (corner-more depth t3 t4 new l [] d (items-end depth t4 new end)))),
-        λ tag. ap (option_map bare_leaf) (range-of (tag ∷ f1.0 ∷ f2.0 ∷ ends) name index k l refl f1.2 f2.2 (corner-of (tag ∷ f1.0 ∷ f2.0 ∷ ends) 3 k c.3.2 c.4.2 c.5.2 c.6.2) (corner-of (tag ∷ f1.0 ∷ f2.0 ∷ ends) 7 l d.3.2 d.4.2 d.5.2 d.6.2))
-            ∙ ap Some (sym (tree_of-range name index k.absolute_row k.absolute_column k.row k.column l.absolute_row l.absolute_column l.row l.column)),
+      λ tag. ap (option_map bare_leaf) (range-of (tag ∷ f1.0 ∷ f2.0 ∷ ends) name index k l refl f1.2 f2.2 (corner-of (tag ∷ f1.0 ∷ f2.0 ∷ ends) 3 k c.3.2 c.4.2 c.5.2 c.6.2) (corner-of (tag ∷ f1.0 ∷ f2.0 ∷ ends) 7 l d.3.2 d.4.2 d.5.2 d.6.2))
+          ∙ ap Some (sym (tree_of-range name index k.absolute_row k.absolute_column k.row k.column l.absolute_row l.absolute_column l.row l.column)),
     )
 
 variable-of : (places : List Data) (name : List ℕ) (id : Option ℕ) → length places ≡ 3 → text_at 1 places ≡ Some name → id_at 2 places ≡ Some id → variable_of places ≡ Some (label.named_variable name id)
@@ -113,7 +113,7 @@ unfolding node_with leaf_of text_at id_at
 variable-tagged depth t0 t1 t2 new name id f1 f2 end = (
   f1.0 ∷ f2.0 ∷ [],
   items-more depth t0 t1 new f1.0 (f2.0 ∷ []) (f1.1 depth) (items-more depth t1 t2 new f2.0 [] (f2.1 depth) (items-end depth t2 new end)),
-    λ tag. ap (option_map bare_leaf) (variable-of (tag ∷ f1.0 ∷ f2.0 ∷ []) name id refl f1.2 f2.2) ∙ ap Some (sym (tree_of-named_variable name id)),
+  λ tag. ap (option_map bare_leaf) (variable-of (tag ∷ f1.0 ∷ f2.0 ∷ []) name id refl f1.2 f2.2) ∙ ap Some (sym (tree_of-named_variable name id)),
 )
 
 leaf-any : (leaf : LeafTag) (a b : Data) (places : List Data) → leaf_of leaf (a ∷ places) ≡ leaf_of leaf (b ∷ places)

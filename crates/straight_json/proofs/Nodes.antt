@@ -86,7 +86,7 @@ unfolding child_at
 one-tagged label depth t0 t1 new child node f1 end is = (
   f1.0 ∷ [],
   items-more depth t0 t1 new f1.0 [] f1.1 (items-end depth t1 new end),
-    λ name. one-of label (name ∷ f1.0 ∷ []) (map node_of (name ∷ f1.0 ∷ [])) (tree_of child) refl f1.2 ∙ ap Some (sym is),
+  λ name. one-of label (name ∷ f1.0 ∷ []) (map node_of (name ∷ f1.0 ∷ [])) (tree_of child) refl f1.2 ∙ ap Some (sym is),
 )
 
 two-of : (label : Label) (places : List Data) (nodes : List (Option Tree)) (left right : Tree) → length places ≡ 3 → child_at 1 nodes ≡ Some left → child_at 2 nodes ≡ Some right → two_of label places nodes ≡ Some (tree [] label (two left right))
@@ -99,7 +99,7 @@ unfolding child_at
 two-tagged label depth t0 t1 t2 new left right node f1 f2 end is = (
   f1.0 ∷ f2.0 ∷ [],
   items-more depth t0 t1 new f1.0 (f2.0 ∷ []) f1.1 (items-more depth t1 t2 new f2.0 [] f2.1 (items-end depth t2 new end)),
-    λ name. two-of label (name ∷ f1.0 ∷ f2.0 ∷ []) (map node_of (name ∷ f1.0 ∷ f2.0 ∷ [])) (tree_of left) (tree_of right) refl f1.2 f2.2 ∙ ap Some (sym is),
+  λ name. two-of label (name ∷ f1.0 ∷ f2.0 ∷ []) (map node_of (name ∷ f1.0 ∷ f2.0 ∷ [])) (tree_of left) (tree_of right) refl f1.2 f2.2 ∙ ap Some (sym is),
 )
 
 call-of : (places : List Data) (nodes : List (Option Tree)) (kind : Function) (arguments : List Tree) → kind_at 1 places ≡ Some kind → arguments_from 2 nodes ≡ Some arguments → call_of places nodes ≡ Some (tree [] (call kind) (forest arguments))
@@ -112,7 +112,7 @@ unfolding node_with kind_at arguments_from
 call-tagged depth t0 t1 new kind arguments node f1 f2 is = (
   f1.0 ∷ f2.0,
   items-more depth t0 t1 new f1.0 f2.0 (f1.1 depth) f2.1,
-    λ name. call-of (name ∷ f1.0 ∷ f2.0) (map node_of (name ∷ f1.0 ∷ f2.0)) kind (map tree_of arguments) f1.2 (traverse-places f2.0 ∙ f2.2) ∙ ap Some (sym is),
+  λ name. call-of (name ∷ f1.0 ∷ f2.0) (map node_of (name ∷ f1.0 ∷ f2.0)) kind (map tree_of arguments) f1.2 (traverse-places f2.0 ∙ f2.2) ∙ ap Some (sym is),
 )
 
 named_call-of : (places : List Data) (nodes : List (Option Tree)) (name : List ℕ) (id : Option ℕ) (arguments : List Tree) → text_at 1 places ≡ Some name → id_at 2 places ≡ Some id → arguments_from 3 nodes ≡ Some arguments
@@ -126,7 +126,7 @@ unfolding node_with text_at id_at arguments_from
 named_call-tagged depth t0 t1 t2 new name id arguments node f1 f2 f3 is = (
   f1.0 ∷ f2.0 ∷ f3.0,
   items-more depth t0 t1 new f1.0 (f2.0 ∷ f3.0) (f1.1 depth) (items-more depth t1 t2 new f2.0 f3.0 (f2.1 depth) f3.1),
-    λ tag. named_call-of (tag ∷ f1.0 ∷ f2.0 ∷ f3.0) (map node_of (tag ∷ f1.0 ∷ f2.0 ∷ f3.0)) name id (map tree_of arguments) f1.2 f2.2 (traverse-places f3.0 ∙ f3.2) ∙ ap Some (sym is),
+  λ tag. named_call-of (tag ∷ f1.0 ∷ f2.0 ∷ f3.0) (map node_of (tag ∷ f1.0 ∷ f2.0 ∷ f3.0)) name id (map tree_of arguments) f1.2 f2.2 (traverse-places f3.0 ∙ f3.2) ∙ ap Some (sym is),
 )
 
 intersection-of : (places : List Data) (nodes : List (Option Tree)) (automatic : Bool) (child : Tree) → length places ≡ 3 → truth_at 1 places ≡ Some automatic → child_at 2 nodes ≡ Some child → intersection_of places nodes ≡ Some (under automatic child)
@@ -139,7 +139,7 @@ unfolding node_with truth_at child_at
 intersection-tagged depth t0 t1 t2 new automatic child node f1 f2 end is = (
   f1.0 ∷ f2.0 ∷ [],
   items-more depth t0 t1 new f1.0 (f2.0 ∷ []) (f1.1 depth) (items-more depth t1 t2 new f2.0 [] f2.1 (items-end depth t2 new end)),
-    λ tag. intersection-of (tag ∷ f1.0 ∷ f2.0 ∷ []) (map node_of (tag ∷ f1.0 ∷ f2.0 ∷ [])) automatic (tree_of child) refl f1.2 f2.2 ∙ ap Some (sym is),
+  λ tag. intersection-of (tag ∷ f1.0 ∷ f2.0 ∷ []) (map node_of (tag ∷ f1.0 ∷ f2.0 ∷ [])) automatic (tree_of child) refl f1.2 f2.2 ∙ ap Some (sym is),
 )
 
 lambda-of : (places : List Data) (nodes : List (Option Tree)) (d : Data) (parameters : List (List ℕ)) (body : Tree) → length places ≡ 3 → slice_get places 1 ≡ Some d → texts_in d ≡ Some parameters → child_at 2 nodes ≡ Some body
@@ -153,7 +153,7 @@ unfolding node_with child_at
 lambda-tagged depth t0 t1 t2 new d parameters body node reads texts f2 end is = (
   d ∷ f2.0 ∷ [],
   items-more depth t0 t1 new d (f2.0 ∷ []) reads (items-more depth t1 t2 new f2.0 [] f2.1 (items-end depth t2 new end)),
-    λ tag. lambda-of (tag ∷ d ∷ f2.0 ∷ []) (map node_of (tag ∷ d ∷ f2.0 ∷ [])) d parameters (tree_of body) refl refl texts f2.2 ∙ ap Some (sym is),
+  λ tag. lambda-of (tag ∷ d ∷ f2.0 ∷ []) (map node_of (tag ∷ d ∷ f2.0 ∷ [])) d parameters (tree_of body) refl refl texts f2.2 ∙ ap Some (sym is),
 )
 
 lambda_call-of : (nodes : List (Option Tree)) (lambda : Tree) (arguments : List Tree) → child_at 1 nodes ≡ Some lambda → arguments_from 2 nodes ≡ Some arguments → lambda_call_of nodes ≡ Some (tree [] (closed lambda_call) (more lambda (forest arguments)))
@@ -166,5 +166,5 @@ unfolding node_with child_at arguments_from
 lambda_call-tagged depth t0 t1 new lambda arguments node f1 f2 is = (
   f1.0 ∷ f2.0,
   items-more depth t0 t1 new f1.0 f2.0 f1.1 f2.1,
-    λ name. lambda_call-of (map node_of (name ∷ f1.0 ∷ f2.0)) (tree_of lambda) (map tree_of arguments) f1.2 (traverse-places f2.0 ∙ f2.2) ∙ ap Some (sym is),
+  λ name. lambda_call-of (map node_of (name ∷ f1.0 ∷ f2.0)) (tree_of lambda) (map tree_of arguments) f1.2 (traverse-places f2.0 ∙ f2.2) ∙ ap Some (sym is),
 )

@@ -52,11 +52,7 @@ fn read_tagged(
 
 /// The formulas up to the bracket that closes an array.
 #[cycle(node)]
-fn read_arguments(
-    alloc: Global,
-    reader: &mut Reader<'_>,
-    depth: usize,
-) -> Result<Nodes, Unread>
+fn read_arguments(alloc: Global, reader: &mut Reader<'_>, depth: usize) -> Result<Nodes, Unread>
     ensures { IfOk result (λ arguments. AreNodes depth reader.old arguments reader.new) }
 {
     let mut arguments = Nodes::new(alloc);
@@ -84,11 +80,7 @@ fn read_binary(
 }
 
 #[cycle(node)]
-fn read_range_operator(
-    alloc: Global,
-    reader: &mut Reader<'_>,
-    depth: usize,
-) -> Result<Node, Unread>
+fn read_range_operator(alloc: Global, reader: &mut Reader<'_>, depth: usize) -> Result<Node, Unread>
     ensures { IfOk result (λ node. IsTagged depth RangeOperator reader.old node reader.new) }
 {
     let left = read_node(alloc, reader, depth)?;
@@ -143,11 +135,7 @@ fn read_named_call(alloc: Global, reader: &mut Reader<'_>, depth: usize) -> Resu
 }
 
 #[cycle(node)]
-fn read_intersection(
-    alloc: Global,
-    reader: &mut Reader<'_>,
-    depth: usize,
-) -> Result<Node, Unread>
+fn read_intersection(alloc: Global, reader: &mut Reader<'_>, depth: usize) -> Result<Node, Unread>
     ensures { IfOk result (λ node. IsTagged depth Intersection reader.old node reader.new) }
 {
     let automatic = take_truth(reader)?;

@@ -7,5 +7,5 @@ returns c =
     let row : SFits w32 c.in_ok-row.row = search rules in
     let column : SFits w32 c.in_ok-column.column = search rules in
     subst (λ corner. IsCorner c.args.reader.now corner c.take_i32-2.new.reader) (sym c.new.ensures)
-        (rw (to_z-of_z row, to_z-of_z column)
-            (c.take_truth.new.reader, c.take_truth-2.new.reader, c.take_i32.new.reader, c.in_ok-absolute_row.ensures, c.in_ok-absolute_column.ensures, c.in_ok-row.ensures, c.in_ok-column.ensures))
+    (rw (to_z-of_z row, to_z-of_z column)
+    (c.take_truth.new.reader, c.take_truth-2.new.reader, c.take_i32.new.reader, c.in_ok-absolute_row.ensures, c.in_ok-absolute_column.ensures, c.in_ok-row.ensures, c.in_ok-column.ensures))

@@ -10,4 +10,4 @@ returns c depth =
     let column2 : SFits w32 c.in_ok-right.right.column = search rules in
     rw (to_z-of_z row1, to_z-of_z column1, to_z-of_z row2, to_z-of_z column2)
     (range-tagged depth c.args.reader.now c.take_u32.new.reader c.take_name.new.reader c.take_corner.new.reader c.take_corner-2.new.reader c.take_end.new.reader c.in_ok-sheet_name.sheet_name c.in_ok-sheet_index.sheet_index
-        c.in_ok-left.left c.in_ok-right.right c.in_ok-sheet_index.ensures c.in_ok-sheet_name.ensures c.in_ok-left.ensures c.in_ok-right.ensures c.in_ok-take_end.ensures)
+    c.in_ok-left.left c.in_ok-right.right c.in_ok-sheet_index.ensures c.in_ok-sheet_name.ensures c.in_ok-left.ensures c.in_ok-right.ensures c.in_ok-take_end.ensures)

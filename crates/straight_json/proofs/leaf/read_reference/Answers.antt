@@ -8,4 +8,4 @@ returns c depth =
     let column : SFits w32 c.in_ok-corner.corner.column = search rules in
     rw (to_z-of_z row, to_z-of_z column)
     (reference-tagged depth c.args.reader.now c.take_u32.new.reader c.take_name.new.reader c.take_corner.new.reader c.take_end.new.reader c.in_ok-sheet_name.sheet_name c.in_ok-sheet_index.sheet_index c.in_ok-corner.corner
-        c.in_ok-sheet_index.ensures c.in_ok-sheet_name.ensures c.in_ok-corner.ensures c.in_ok-take_end.ensures)
+    c.in_ok-sheet_index.ensures c.in_ok-sheet_name.ensures c.in_ok-corner.ensures c.in_ok-take_end.ensures)

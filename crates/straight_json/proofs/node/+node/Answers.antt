@@ -39,17 +39,17 @@ read_call-returns t c =
 pub read_named_call-returns : goal.read_named_call-returns
 read_named_call-returns t c =
     named_call-tagged c.args.depth c.args.reader.now c.take_text.new.reader c.take_id.new.reader c.read_arguments.new.reader c.in_ok-name.name c.in_ok-id.id c.in_ok-arguments.arguments c.named_call.result c.in_ok-name.ensures c.in_ok-id.ensures
-        c.in_ok-arguments.ensures c.named_call.ensures
+    c.in_ok-arguments.ensures c.named_call.ensures
 
 pub read_intersection-returns : goal.read_intersection-returns
 read_intersection-returns t c =
     intersection-tagged c.args.depth c.args.reader.now c.take_truth.new.reader c.read_node.new.reader c.take_end.new.reader c.in_ok-automatic.automatic c.in_ok-child.child c.in_ok-node.node c.in_ok-automatic.ensures c.in_ok-child.ensures
-        c.in_ok-take_end.ensures c.in_ok-node.ensures
+    c.in_ok-take_end.ensures c.in_ok-node.ensures
 
 pub read_lambda-returns : goal.read_lambda-returns
 read_lambda-returns t c =
     lambda-tagged c.args.depth c.args.reader.now c.read_value.new.reader c.read_node.new.reader c.take_end.new.reader _ c.in_ok-parameters.parameters c.in_ok-body.body c.in_ok-node.node c.in_ok-value.ensures.read c.in_ok-parameters.ensures
-        c.in_ok-body.ensures c.in_ok-take_end.ensures c.in_ok-node.ensures
+    c.in_ok-body.ensures c.in_ok-take_end.ensures c.in_ok-node.ensures
 
 pub read_lambda_call-returns : goal.read_lambda_call-returns
 read_lambda_call-returns t c =
