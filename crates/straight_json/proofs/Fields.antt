@@ -9,7 +9,7 @@ use Rattle.serde_json.specs.Read.{of_json, number_of, converted}
 use Rattle.call_core.specs.declared.function.Function.{Function}
 use Rattle.value_json.specs.Fields.{u32_in}
 use Rattle.formula_json.specs.Kinds.{kind_named}
-use Rattle.straight_json.specs.Straight.{IsField, Reads, i64_in, i32_in, id_in, kind_in, name_in}
+use Rattle.straight_json.specs.Straight.{IsField, i64_in, i32_in, id_in, kind_in, name_in}
 use Rattle.straight_json.proofs.Steps.{boolean-reads, null-reads, number-reads, string-reads}
 
 pub boolean-field : (old ts : List Token) (truth : Bool) → old ≡ Token.boolean truth ∷ ts → IsField as_bool old truth ts

@@ -3,7 +3,7 @@
 --   leaf-any                   what stands at the place of the tag doesn't count
 --   TAG-tagged                 the node of a tag
 --   other-tagged               the node of any tag, by values
-use Rattle.std.proofs.Common.{◌≡◌, ◌+◌, ℕ, ℤ, Bool, List, [], ◌∷◌, length, map, Option, Some, None, option_map, refl, sym, ap, ◌∙◌}
+use Rattle.std.proofs.Common.{◌≡◌, ◌+◌, ℕ, ℤ, Bool, List, [], ◌∷◌, length, map, Option, Some, option_map, refl, sym, ap, ◌∙◌}
 use Rattle.json.specs.Token.{Token}
 use Rattle.json.specs.Json.{after_end_array}
 use Rattle.serde_json.specs.Data.{Data, null}
@@ -23,7 +23,7 @@ use Rattle.formula_json.specs.Leaves.{corner_at, boolean_of, number_of, text_of,
 use Rattle.formula_json.specs.declared.tag.LeafTag.{LeafTag}
 use Rattle.formula_json.specs.declared.tag.LeafTag.TheVariants.{Boolean, Number, Text, Error, Empty, Reference, Range, WrongReference, WrongRange, Array, DefinedName, Table, Variable, ParseError}
 use Rattle.formula_json.specs.declared.tag.Tag.TheVariants.{Leaf}
-use Rattle.straight_json.specs.Straight.{IsCorner, IsField, IsTagged, ReadsItems, i64_in, i32_in, id_in, name_in}
+use Rattle.straight_json.specs.Straight.{IsCorner, IsField, IsTagged, ReadsItems, i64_in, id_in, name_in}
 use Rattle.straight_json.proofs.Steps.{items-end, items-more}
 
 corner-of : (places : List Data) (n : ℕ) (k : Corner) → truth_at n places ≡ Some k.absolute_row → truth_at (n + 1) places ≡ Some k.absolute_column → i32_at (n + 2) places ≡ Some k.row → i32_at (n + 3) places ≡ Some k.column

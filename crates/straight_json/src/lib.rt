@@ -19,5 +19,7 @@ mod field;
 mod leaf;
 mod node;
 mod number;
+#[cfg(test)]
+mod tests;
 mod unread;
 mod value;

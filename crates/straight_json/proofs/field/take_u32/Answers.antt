@@ -1,4 +1,4 @@
-use Rattle.std.proofs.Common.{rules, arith, ◌≡◌, ◌∷◌}
+use Rattle.std.proofs.Common.{arith, ◌≡◌, ◌∷◌}
 use Rattle.json.specs.Token.{Token}
 use Rattle.straight_json.proofs.Fields.{unsigned-field}
 use Rattle.straight_json.proofs.field.take_u32.Goals as goal

@@ -1,4 +1,4 @@
-use Rattle.std.proofs.Common.{◌≡◌, ◌+◌, ◌*◌, ◌≤◌, List, Some, length, map}
+use Rattle.std.proofs.Common.{◌≡◌, ◌+◌, ◌*◌, List, Some, length, map}
 use Rattle.serde_json.specs.Data.{Data}
 use Rattle.tree_core.specs.Formula.{tree_of}
 use Rattle.value_json.specs.Traverse.{traverse}

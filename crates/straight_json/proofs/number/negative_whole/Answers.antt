@@ -1,4 +1,4 @@
-use Rattle.std.proofs.Common.{◌≡◌, drop, get_or, true, false, ◌==◌, IfSome, Some, sym, ap, ◌∙◌, arith, take_all, length-drop, subst}
+use Rattle.std.proofs.Common.{◌≡◌, drop, get_or, true, ◌==◌, IfSome, Some, sym, ap, ◌∙◌, arith, take_all, length-drop, subst}
 use Rattle.fast_float.specs.Text.{scan}
 use Rattle.serde_json.specs.Data.{negative}
 use Rattle.serde_json.specs.Read.{number_of, number_from}

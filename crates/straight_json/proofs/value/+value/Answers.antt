@@ -1,16 +1,15 @@
-use Rattle.std.proofs.Common.{◌≡◌, ◌-◌, ◌<◌, [], ◌∷◌, ◌++◌, None, Some, length, map, string_bytes, refl, sym, ap, ◌∙◌, subst, arith, rules}
+use Rattle.std.proofs.Common.{◌≡◌, ◌<◌, [], ◌∷◌, None, Some, length, map, string_bytes, sym, ap, ◌∙◌, subst, arith, rules}
 use Rattle.std.proofs.lemmas.List.{map-append}
 use Rattle.json.specs.Token.{Token}
 use Rattle.json.specs.Json.{after_end_array, read_key, value}
-use Rattle.json.specs.Reads.{token_of}
 use Rattle.json.proofs.Grammar.{read_key-shorter}
-use Rattle.serde_json.specs.Data.{Members, null, boolean, number, string, array, object, put, no_members}
+use Rattle.serde_json.specs.Data.{null, boolean, number, string, put}
 use Rattle.serde_json.specs.Read.{of_json, converted}
-use Rattle.serde_json.specs.View.{view, items_of, items_view, members_view, number_view}
+use Rattle.serde_json.specs.View.{view, members_view, number_view}
 use Rattle.serde_json.specs.declared.value.Value.{String, Number, Bool, Null, the_lemmas}
 use Rattle.serde_json.proofs.Views.{view-Array, view-Object, members_view-insert_entry}
 use Rattle.straight_json.specs.Straight.{Reads, ReadsMembers}
-use Rattle.straight_json.proofs.Steps.{Passed, array-reads, boolean-reads, members-end, members-more, null-reads, number-reads, object-reads, passed-all, passed-more, passed-none, string-reads}
+use Rattle.straight_json.proofs.Steps.{Passed, array-reads, boolean-reads, members-end, members-more, null-reads, number-reads, object-reads, passed-all, passed-more, string-reads}
 use Rattle.straight_json.proofs.value.+value.Goals as goal
 
 pub read_items-items-preserved : goal.read_items-items-preserved
