@@ -12,3 +12,5 @@ pub use run::hencredenza_run;
 mod formula;
 mod hand_over;
 mod run;
+#[cfg(test)]
+mod tests;
